@@ -1,0 +1,1 @@
+// No code: what a 32-bit pattern means over the integers.

@@ -1,0 +1,3 @@
+pub mod Variable
+pub mod TaggedVariable
+pub mod Owes

@@ -1,0 +1,3 @@
+pub mod Got
+pub mod Place
+pub mod Search
