@@ -7,14 +7,9 @@ ghost use Rattle.decode.specs.Owes.{NullOwes};
 use reader::Cursor;
 use reader::Read;
 
-mod negative_14_bit;
-mod tagged_variable;
-mod variable;
-
-pub use negative_14_bit::negative_14_bit;
-pub use tagged_variable::tagged_variable;
-pub use variable::variable;
-pub use variable::variable_signed;
+pub mod negative_14_bit;
+pub mod tagged_variable;
+pub mod variable;
 
 fn wide(b: u8) -> u32
     ensures { λ r. ⌜ (r ≡ b) × (r < 256) ⌝ }

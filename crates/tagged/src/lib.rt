@@ -4,11 +4,8 @@ ghost use mathlib.Core.Path.{_≡_};
 ghost use Prim.Native.Nat.{_<_};
 ghost use Rattle.bits.specs.Pattern.{pattern, lowered};
 
-mod tagged_16;
-mod tagged_32;
-
-pub use tagged_16::tagged_16;
-pub use tagged_32::tagged_32;
+pub mod tagged_16;
+pub mod tagged_32;
 
 fn wide(b: u8) -> u32
     ensures { λ r. ⌜ (r ≡ b) × (r < 256) ⌝ }
