@@ -1,2 +1,4 @@
 pub mod Bytes
+pub mod Lawful
+pub mod Reading
 pub mod Searching

@@ -1,0 +1,5 @@
+pub mod Headed
+pub mod Made
+pub mod Marked
+pub mod Minus
+pub mod Sevens
