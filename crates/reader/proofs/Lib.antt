@@ -1,4 +1,5 @@
 pub mod Bytes
+pub mod Every
 pub mod Lawful
 pub mod Reading
 pub mod Searching
