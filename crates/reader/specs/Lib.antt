@@ -1,3 +1,4 @@
 pub mod Got
+pub mod Owes
 pub mod Place
 pub mod Search

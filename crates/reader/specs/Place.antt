@@ -1,7 +1,6 @@
 -- Places of a section, and what the code answers there.
 use Prim.Native.Nat.{ℕ, _+_}
 use mathlib.Core.List.{List, [], _∷_}
-use mathlib.Core.Path.{_≡_}
 use lib.ListN.{drop, replicate}
 use lib.Seq.{sets}
 use Rattle.reader.specs.declared.Byte.{Byte}
@@ -48,6 +47,9 @@ groupAt c (got vs u) = record { step = step.Next (on c u); values = padded 8 vs 
 groupAt c cut = noValues step.Cut
 groupAt c corrupt = noValues step.Corrupt
 
--- the place to go back to, and the place that it leads back to
+-- the point to go back to, and the place that it leads back to
 abbrev pub pointOf : Cursor → RestorePoint
 pointOf c = record { 0 = c .at }
+
+abbrev pub placeOf : RestorePoint → Cursor
+placeOf p = record { at = p .0 }

@@ -1,9 +1,8 @@
 // Where a section is read: places, one byte, the kinds of frames and the search for the next.
 // The Rust's Reader holds its data; here the section is lent to each call, and a place goes in and comes out.
 ghost use mathlib.Core.Path.{_≡_};
-ghost use lib.ListN.{drop};
-ghost use Rattle.reader.specs.Place.{rest, byteAt, noValues};
-ghost use Rattle.reader.specs.Search.{letterOf, searched, seek};
+ghost use Rattle.reader.specs.Owes.{GetRestorePointOwes, RestoreOwes, StoppedOwes, ReadU8Owes, FromByteOwes, SkipToFrameOwes};
+ghost use Rattle.reader.specs.Search.{letterOf, searched};
 
 // The place of the next byte to read.
 pub struct Cursor {
@@ -61,7 +60,7 @@ pub struct Skip {
 
 impl Cursor {
     pub fn get_restore_point(self) -> RestorePoint
-        ensures { λ r. ⌜ r .0 ≡ self .at ⌝ }
+        ensures { λ r. ⌜ GetRestorePointOwes self r ⌝ }
     {
         RestorePoint(self.at)
     }
@@ -69,7 +68,7 @@ impl Cursor {
 
 impl RestorePoint {
     pub fn restore(self) -> Cursor
-        ensures { λ r. ⌜ r .at ≡ self .0 ⌝ }
+        ensures { λ r. ⌜ RestoreOwes self r ⌝ }
     {
         Cursor { at: self.0 }
     }
@@ -78,7 +77,7 @@ impl RestorePoint {
 impl Group {
     // No numbers: why reading stopped.
     pub fn stopped(step: Step) -> Group
-        ensures { λ r. ⌜ r ≡ noValues step ⌝ }
+        ensures { λ r. ⌜ StoppedOwes step r ⌝ }
     {
         Group {
             step,
@@ -88,7 +87,7 @@ impl Group {
 }
 
 pub fn read_u8(s: &[u8], from: Cursor) -> Byte
-    ensures { λ r. ⌜ r ≡ byteAt from (rest from (now (s .entry))) ⌝ }
+    ensures { λ r. ⌜ ReadU8Owes (now (s .entry)) from r ⌝ }
 {
     let at = from.at;
     if at < s.len() {
@@ -100,7 +99,7 @@ pub fn read_u8(s: &[u8], from: Cursor) -> Byte
 
 impl Letter {
     pub fn from_byte(b: u8) -> Letter
-        ensures { λ r. ⌜ r ≡ letterOf b ⌝ }
+        ensures { λ r. ⌜ FromByteOwes b r ⌝ }
     {
         match b {
             b'E' => Letter::Is(Kind::Event),
@@ -130,7 +129,7 @@ fn stops(b: u8) -> bool
 
 // The search for the next frame, from a place on.
 pub fn skip_to_frame(s: &[u8], from: RestorePoint) -> Skip
-    ensures { λ r. ⌜ r ≡ seek (drop (from .0) (now (s .entry))) ⌝ }
+    ensures { λ r. ⌜ SkipToFrameOwes (now (s .entry)) from r ⌝ }
 {
     let start = from.0;
     let mut i = start;
