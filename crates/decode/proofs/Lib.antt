@@ -4,4 +4,5 @@ pub mod Made
 pub mod Marked
 pub mod Meaning
 pub mod Minus
+pub mod One
 pub mod Sevens
