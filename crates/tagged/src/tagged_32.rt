@@ -7,7 +7,6 @@ ghost use Rattle.bits.specs.Pattern.{pattern};
 ghost use Rattle.reader.specs.Place.{padded};
 ghost use Rattle.tagged.specs.Owes.{Tagged32Owes};
 ghost use Rattle.tagged.specs.Sized.{signedFrom, size7, values7};
-
 use crate::sign_extend;
 use crate::wide;
 use reader::Cursor;

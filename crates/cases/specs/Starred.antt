@@ -1,0 +1,33 @@
+-- The cases that document 01 marks with a star under "Sessions to reproduce", as one list under one statement.
+use Prim.Native.Nat.{ℕ}
+use mathlib.Core.List.{List, [], _∷_}
+use mathlib.Core.Path.{_≡_}
+use lib.IntN.{ℤ, pos, negℤ}
+use lib.ListN.{length}
+use Rattle.reader.specs.Got.{got, Reader}
+use Rattle.decode.specs.TaggedVariable.{encoding6}
+use Rattle.tagged.specs.Tagged16.{encoding8}
+use Rattle.tagged.specs.Tagged32.{encoding7}
+
+pub data Case : Type 0 where
+  -- a group: the reader, the bytes, and the numbers that all of them hold
+  group : Reader (List ℤ) → List ℕ → List ℤ → Case
+
+abbrev minus : ℕ → ℤ
+minus n = negℤ (pos n)
+
+unfoldable pub starred : List Case
+starred =
+    group (encoding6 3) (0x05 ∷ 0x02 ∷ 0x03 ∷ []) (pos 1 ∷ pos 0 ∷ minus 2 ∷ [])
+    ∷ group encoding7 (0x1B ∷ []) (pos 1 ∷ minus 2 ∷ minus 1 ∷ [])
+    ∷ group encoding7 (0x47 ∷ 0x8F ∷ []) (pos 7 ∷ minus 8 ∷ minus 1 ∷ [])
+    ∷ group encoding8 (0x0D ∷ 0x21 ∷ 0x23 ∷ 0x40 ∷ []) (pos 2 ∷ pos 4660 ∷ pos 0 ∷ pos 0 ∷ [])
+    ∷ []
+
+-- what a case says of the definitions
+abbrev pub Says : Case → Type 0
+Says (group reader bytes values) = reader bytes ≡ got values (record { bytes = length bytes })
+
+abbrev pub Hold : List Case → Type 0
+Hold [] = Unit
+Hold (c ∷ cs) = Says c × Hold cs

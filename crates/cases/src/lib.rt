@@ -1,0 +1,1 @@
+// No code: the cases that document 01 marks with a star, as one list.

@@ -1,0 +1,9 @@
+pub mod Choice
+pub mod Ends
+pub mod Fixed
+pub mod Lawful
+pub mod Meaning
+pub mod Numbers7
+pub mod Numbers8
+pub mod One
+pub mod Patterns
