@@ -233,6 +233,9 @@ def table(rng):
     lines += ["# The longest section"]
     lines += [case("1", 0, at, b"\x80" * 252 + b"\xff\xff\xff\x0f") for at in (0, 251, 252, 256)]
 
+    lines += ["# What the Rust was asked (vectors/oracle-answers.txt)"]
+    lines += [case(encoding, int(n), 0, data) for encoding, n, data, _, _ in recorded()]
+
     lines += ["# Lines that are no case"]
     lines += ["", "1", "1 0 0", "1 0 0 ", "1 0 0 00 ", " 1 0 0 00", "1  0 0 00", "1 0 0 00 00"]
     lines += ["2 0 0 00", "4 0 0 00", "5 0 0 00", "10 0 0 00", "bytes 0 0 00", "1 1 0 00", "byte 1 0 00"]
@@ -274,22 +277,28 @@ def files():
     return made, lines
 
 
-def replay():
-    """Holds the decoders to the Rust's recorded answers: equal in the domain of equality, different where it was recorded so."""
-    equal = different = 0
-    is_different = False
+def recorded():
+    """The Rust's recorded answers: encoding, group, bytes, what became of the frame, and whether that is known to differ here."""
+    rows, differs = [], False
     for line in RECORDED.read_text("ascii").splitlines():
         if line.startswith("#"):
-            is_different = line.startswith("# Different")
+            differs = line.startswith("# Different")
             continue
         asked, rust = line.split(" = ")
         encoding, n, data = asked.split(" ")
-        here = decoders.trial(int(encoding), int(n), b"" if data == "-" else bytes.fromhex(data))
-        if (here != rust) != is_different:
-            sys.exit(f"make.py: the Rust says {line}, the decoders say {here}")
-        different += is_different
-        equal += not is_different
-    return equal, different
+        rows.append((encoding, n, b"" if data == "-" else bytes.fromhex(data), rust, differs))
+    return rows
+
+
+def replay():
+    """Holds the decoders to the Rust's recorded answers: equal in the domain of equality, different where it was recorded so."""
+    counts = [0, 0]
+    for encoding, n, data, rust, differs in recorded():
+        here = decoders.trial(int(encoding), int(n), data)
+        if (here != rust) != differs:
+            sys.exit(f"make.py: for {encoding} {n} {data.hex()} the Rust says {rust}, the decoders say {here}")
+        counts[differs] += 1
+    return counts
 
 
 def main():

@@ -1,6 +1,5 @@
 -- Every starred case holds, by computation. The line `unfolding` names every definition on the way.
 use mathlib.Core.Path.{refl}
-use lib.Count.{ones, onesIn}
 use Rattle.bits.specs.Pattern.{lowered, signed}
 use Rattle.reader.specs.Got.{over, after, onward, _>>=_, give, fault, byte, bytes}
 use Rattle.decode.specs.TaggedVariable.{marked, fields, headed, alone, encoding6}
@@ -10,7 +9,7 @@ use Rattle.tagged.specs.Tagged16.{width, widths, halves, big, unpacked, encodin
 use Rattle.tagged.specs.Tagged32.{twoBits, fourBits, sixBits, wholeBytes, encoding7}
 use Rattle.cases.specs.Starred.{Hold, starred}
 
-pub all : unfold starred in Hold starred
-unfolding lowered signed over after onward _>>=_ give fault byte bytes marked fields headed alone encoding6 sevens encoding1 zigzag encoding0
-          pairs width widths halves big unpacked encoding8 twoBits fourBits sixBits wholeBytes encoding7
+pub all : Hold starred
+unfolding starred lowered signed over after onward _>>=_ give fault byte bytes marked fields headed alone encoding6 sevens encoding1 zigzag encoding0
+    pairs width widths halves big unpacked encoding8 twoBits fourBits sixBits wholeBytes encoding7
 all = (refl, (refl, (refl, (refl, tt))))

@@ -3,7 +3,6 @@
 ghost use mathlib.Core.Path.{_≡_};
 ghost use Prim.Native.Nat.{_<_};
 ghost use Rattle.decode.specs.Owes.{NullOwes};
-
 use reader::Cursor;
 use reader::Read;
 

@@ -4,10 +4,9 @@ ghost use Prim.Native.Nat.{_%_, _^_};
 ghost use lib.IntN.{negℤ};
 ghost use Rattle.bits.specs.Pattern.{pattern, signed};
 ghost use Rattle.decode.specs.Owes.{Negative14BitOwes};
-
+use crate::variable::variable;
 use reader::Cursor;
 use reader::Read;
-use crate::variable::variable;
 
 // The low 14 bits as a signed number, negated.
 fn minus_low_14(n: u32) -> u32

@@ -7,7 +7,6 @@ ghost use Rattle.reader.specs.Got.{over};
 ghost use Rattle.reader.specs.Place.{rest, readAt, groupAt};
 ghost use Rattle.decode.specs.Owes.{TaggedVariableOwes};
 ghost use Rattle.decode.specs.TaggedVariable.{marked, fields, headed, alone};
-
 use crate::variable::variable_signed;
 use crate::wide;
 use reader::Byte;

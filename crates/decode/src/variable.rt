@@ -4,7 +4,6 @@ ghost use mathlib.Core.Path.{_≡_};
 ghost use Rattle.bits.specs.Pattern.{pattern};
 ghost use Rattle.decode.specs.Variable.{zigzag};
 ghost use Rattle.decode.specs.Owes.{VariableOwes, VariableSignedOwes};
-
 use crate::wide;
 use reader::Cursor;
 use reader::Read;

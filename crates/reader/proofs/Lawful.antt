@@ -115,7 +115,7 @@ module _ {A B : Type 0} (l m : ℕ) (k : A → Reader B) (laws : (a : A) → Law
   unfolding onward
   onward-kept c d (got a u) g′ w e =
       let same : onward k (c ++ d) g′ ≡ after u (k a (drop (u .bytes) c ++ d)) =
-          ap (onward k (c ++ d)) e ∙ ap (λ x. after u (k a x)) (drop-append-le (u .bytes) c d (w .1)) in
+      ap (onward k (c ++ d)) e ∙ ap (λ x. after u (k a x)) (drop-append-le (u .bytes) c d (w .1)) in
       subst (λ x. Kept (after u (k a (drop (u .bytes) c))) x) (sym same) (after-kept u _ _ (laws a .stable (drop (u .bytes) c) d))
   onward-kept c d cut g′ w e = tt
   onward-kept c d corrupt g′ w e = ap (onward k (c ++ d)) e

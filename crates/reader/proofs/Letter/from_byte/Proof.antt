@@ -37,7 +37,7 @@ returns-7 c =
       ne-eqb _ 80 (c .match .rest .0 .0 .0 .1),
       ne-eqb _ 71 (c .match .rest .0 .0 .1),
       ne-eqb _ 72 (c .match .rest .0 .1),
-      ne-eqb _ 83 (c .match .rest .1)
+      ne-eqb _ 83 (c .match .rest .1),
     )
 
 pub from-byte-spec : {M : Type 1} → statement M
