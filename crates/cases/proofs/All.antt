@@ -1,4 +1,4 @@
--- Every starred case holds, by computation. The line `unfolding` names every definition on the way.
+-- Every case of the list holds, by computation. The line `unfolding` names every definition on the way.
 use mathlib.Core.Path.{refl}
 use Rattle.bits.specs.Pattern.{lowered, signed}
 use Rattle.reader.specs.Got.{over, after, onward, _>>=_, give, fault, byte, bytes}

@@ -1,4 +1,5 @@
--- The cases that document 01 marks with a star under "Sessions to reproduce", as one list under one statement.
+-- The cases that document 01 marks with a star under "Sessions to reproduce", as one list under one statement: here those on encodings.
+-- Those on predictors and on the walk join the list with their crates.
 use Prim.Native.Nat.{ℕ}
 use mathlib.Core.List.{List, [], _∷_}
 use mathlib.Core.Path.{_≡_}
@@ -26,7 +27,7 @@ starred =
 
 -- what a case says of the definitions
 abbrev pub Says : Case → Type 0
-Says (group reader bytes values) = reader bytes ≡ got values (record { bytes = length bytes })
+Says (group reader section values) = reader section ≡ got values (record { bytes = length section })
 
 abbrev pub Hold : List Case → Type 0
 Hold [] = Unit

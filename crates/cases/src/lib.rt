@@ -1,1 +1,1 @@
-// No code: the cases that document 01 marks with a star, as one list.
+// No code: starred cases of document 01, as one list.

@@ -1,9 +1,7 @@
 -- A group of encoding 6 by its head, and by its size.
 use Prim.Native.Nat.{ℕ, _^_, _<_, _≤_}
-use mathlib.Core.Bool.{cond}
 use mathlib.Core.List.{List, [], _∷_, map}
 use mathlib.Core.Path.{_≡_, refl, sym, ap, _∙_}
-use lib.Dec.{ltb, leb, eqb}
 use lib.ListN.{drop}
 use lib.Seq.{drop-drop}
 use borrow.Author.Tests.{lt-ltb, le-ltb, le-leb, lt-leb, eq-eqb, ne-eqb}
@@ -13,7 +11,7 @@ use Rattle.reader.specs.declared.Byte.the-variants.{Here, End}
 use Rattle.reader.specs.declared.Cursor.{Cursor}
 use Rattle.reader.specs.declared.Group.{Group}
 use Rattle.reader.specs.declared.Step.the-variants as step
-use Rattle.reader.specs.Got.{one, Got, over, after, onward, _>>=_, fault, byte}
+use Rattle.reader.specs.Got.{one, over, after, onward, _>>=_, fault, byte}
 use Rattle.reader.specs.Place.{rest, on, byteAt, noValues, groupAt}
 use Rattle.reader.proofs.Reading.{over-after, group-after}
 use Rattle.decode.specs.TaggedVariable.{fields, headed, alone, encoding6}
@@ -41,16 +39,16 @@ module _ (n : ℕ) (c : Cursor) (r : Byte) where
       rw (lt-ltb b (2 ^ n) (rw same at lt), same, place)
       (sym (ap (groupAt c) (over-after (map pattern) one (fields n b t)) ∙ group-after c one (over (map pattern) (fields n b t))))
 
-  behind : (t : List ℕ) {h : ℕ} {q : Cursor} → r ≡ byteAt c t → r ≡ Here h q → on c one ≡ q
+  next-place : (t : List ℕ) {h : ℕ} {q : Cursor} → r ≡ byteAt c t → r ≡ Here h q → on c one ≡ q
   unfolding byteAt
-  behind [] e f = cc
-  behind (b ∷ t) e f = cc
+  next-place [] e f = cc
+  next-place (b ∷ t) e f = cc
 
   -- where the head is in order, the fields are read at the next place
   pub head-low : (s : List ℕ) {x : Group} {h : ℕ} {q : Cursor} → x ≡ groupAt q (over (map pattern) (fields n h (rest q s)))
       → r ≡ byteAt c (rest c s) → r ≡ Here h q → h < 2 ^ n → x ≡ groupAt c (over (map pattern) (headed n (rest c s)))
   head-low s {h = h} {q} a e f lt =
-      let same : drop 1 (rest c s) ≡ rest q s = drop-drop 1 (c .at) s ∙ ap (λ p. rest p s) (behind (rest c s) e f) in
+      let same : drop 1 (rest c s) ≡ rest q s = drop-drop 1 (c .at) s ∙ ap (λ p. rest p s) (next-place (rest c s) e f) in
       a ∙ ap (λ t. groupAt q (over (map pattern) (fields n h t))) (sym same) ∙ low (rest c s) e f lt
 
 -- ## The group by its size

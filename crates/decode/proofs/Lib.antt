@@ -1,3 +1,4 @@
+pub mod Counted
 pub mod Headed
 pub mod Lawful
 pub mod Made
@@ -5,4 +6,5 @@ pub mod Marked
 pub mod Meaning
 pub mod Minus
 pub mod One
+pub mod Ones
 pub mod Sevens

@@ -1,8 +1,8 @@
 -- Encoding 6 field by field: what the loop of `marked_fields` has in hand, and each way on from there.
-use Prim.Native.Nat.{ℕ, zero, suc, _+_, _-_, _*_, _/_, _%_, _^_, _≤_, _<_}
-use mathlib.Core.List.{List, [], _∷_, map}
+use Prim.Native.Nat.{ℕ, zero, suc, _+_, _-_, _/_, _%_, _^_, _≤_, _<_}
+use mathlib.Core.List.{List, _∷_, map}
 use mathlib.Core.Path.{_≡_, refl, sym, ap, ap₂, _∙_}
-use native.Mathlib.Nat.{pow-suc, add-zero}
+use native.Mathlib.Nat.{pow-suc}
 use native.Mathlib.Numerals.{add-one}
 use native.Mathlib.Omega.{arith}
 use lib.Count.{ones, ones-step, ones-le}
@@ -16,7 +16,7 @@ use Rattle.reader.specs.declared.Read.{Read}
 use Rattle.reader.specs.declared.Read.the-variants as read
 use Rattle.reader.specs.declared.Step.the-variants as step
 use Rattle.reader.specs.Got.{Spent, nothing, Got, got, cut, corrupt, over, after, onward, _>>=_, give}
-use Rattle.reader.specs.Place.{rest, on, readAt, padded, noValues, groupAt}
+use Rattle.reader.specs.Place.{rest, on, readAt, noValues, groupAt}
 use Rattle.reader.proofs.Reading.{onward-give, onward-got, on-both, on-nothing, give-onward}
 use Rattle.decode.specs.TaggedVariable.{marked, fields}
 use Rattle.decode.specs.Variable.{encoding0}

@@ -2,7 +2,7 @@
 use Prim.Native.Nat.{ℕ, zero, suc, _+_, _-_, _*_, _<_, _≤_}
 use mathlib.Core.Path.{_≡_}
 use native.Mathlib.Omega.{arith}
-use lib.IntN.{ℤ, pos, negsuc, negℤ}
+use lib.IntN.{negℤ}
 use borrow.Author.Tests.{lt-ltb, le-ltb}
 use Rattle.bits.specs.Pattern.{wrap, pattern, lowered, signed}
 

@@ -32,7 +32,7 @@ alone = do
   v ← encoding0
   give (v ∷ [])
 
--- Encoding 6, a group of n fields. There is no group of none, and none of more than eight.
+-- Encoding 6, a group of n fields, one to eight. Any other size is corrupt, whatever the bytes (docs/DECISIONS.md).
 unfoldable pub encoding6 : ℕ → Reader (List ℤ)
 encoding6 n =
     cond (eqb n 0) fault

@@ -25,7 +25,7 @@ fn marked_field(s: &[u8], from: Cursor, bit: u8) -> Read
     variable_signed(s, from)
 }
 
-// The fields behind a head: reading ends with the number of its last one.
+// The fields behind a head. As many numbers are read as it has ones; the fields behind the last of them are 0.
 fn marked_fields(s: &[u8], from: Cursor, n: usize, head: u8) -> Group
     requires { ⌜ (n ≤ 8) × (head < 2 ^ n) ⌝ }
     ensures { λ r. ⌜ r ≡ groupAt from (over (map pattern) (fields n head (rest from (now (s .entry))))) ⌝ }

@@ -47,13 +47,6 @@ module _ {A : Type 0} (P : A → Type 0) where
   after-every u corrupt h = tt
 
 module _ {A B : Type 0} (P : A → Type 0) (Q : B → Type 0) where
-  -- another value for each
-  pub over-every : (f : A → B) → ((a : A) → P a → Q (f a)) → (g : Got A) → Every P g → Every Q (over f g)
-  unfolding over
-  over-every f k (got a u) h = k a h
-  over-every f k cut h = tt
-  over-every f k corrupt h = tt
-
   -- what follows is asked with the bytes that are left
   pub onward-every : {k : A → Reader B} → ((a : A) → P a → Reads Q (k a)) → (c : List ℕ) → Bytes c → (g : Got A) → Every P g → Every Q (onward k c g)
   unfolding onward
@@ -76,6 +69,15 @@ give-reads a h = record { every = λ c b. h }
 pub fault-reads : {A : Type 0} {P : A → Type 0} → Reads P fault
 unfolding fault
 fault-reads = record { every = λ c b. tt }
+
+-- where nothing is asked of its values, any reader will do
+any-value : {A : Type 0} (g : Got A) → Every (λ _. Unit) g
+any-value (got a u) = tt
+any-value cut = tt
+any-value corrupt = tt
+
+pub any-reads : {A : Type 0} (r : Reader A) → Reads (λ _. Unit) r
+any-reads r = record { every = λ c b. any-value (r c) }
 
 -- a byte of bytes is one
 pub byte-reads : Reads (λ b. b < 256) byte

@@ -1,14 +1,21 @@
--- Laws of the search for later layers: what it finds stands within the bytes and stays found when bytes are appended;
+-- Laws of kinds and of the search for later layers: what it finds stands within the bytes and stays found when bytes are appended;
 -- where it finds nothing, no later place has anything to find.
 use Prim.Native.Nat.{ℕ, zero, suc, _+_, _-_, _<_, _≤_}
-use mathlib.Core.Bool.{Bool, true, false, cond}
+use mathlib.Core.Bool.{Bool, true, false, cond, true≢false}
 use mathlib.Core.List.{List, [], _∷_, _++_}
 use mathlib.Core.Option.{Option, none, some}
 use mathlib.Core.Path.{_≡_, refl, sym, ap, _∙_}
 use native.Mathlib.Omega.{arith}
+use lib.Dec.{eqb}
 use lib.ListN.{length, drop}
 use lib.Seq.{drop-drop}
-use Rattle.reader.specs.Search.{letterOf, searched, further, ahead, skipOf, seek}
+use borrow.Author.Tests.{eqb-true}
+use Rattle.bits.proofs.Laws.{by-test}
+use Rattle.reader.specs.declared.Kind.{Kind}
+use Rattle.reader.specs.declared.Kind.the-variants.{Event, Intra, Inter, Gps, Home, Slow}
+use Rattle.reader.specs.declared.Letter.{Letter}
+use Rattle.reader.specs.declared.Letter.the-variants.{Is, Other}
+use Rattle.reader.specs.Search.{byteOf, letterOf, searched, further, ahead, skipOf, seek}
 
 -- ## Within the bytes
 
@@ -34,6 +41,15 @@ skip-within n (some m) h = omega arith
 pub seek-within : (t : List ℕ) → seek t .by ≤ length t
 unfolding seek
 seek-within t = skip-within (length t) (ahead t) (ahead-below t)
+
+found : (n : ℕ) (o : Option ℕ) → Below n o → skipOf o .barren ≡ false → skipOf o .by < n
+unfolding skipOf
+found n none h e = absurd (true≢false e)
+found n (some m) h e = h
+
+pub found-inside : (t : List ℕ) → seek t .barren ≡ false → seek t .by < length t
+unfolding seek
+found-inside t e = found (length t) (ahead t) (ahead-below t) e
 
 -- ## What is found stays found when bytes are appended
 
@@ -68,3 +84,48 @@ pub none-later : (s : List ℕ) (p q : ℕ) → p ≤ q → ahead (drop p s) ≡
 none-later s p q h e =
     let z : p + (q - p) ≡ q = omega arith in
     ap (λ n. ahead (drop n s)) (sym z) ∙ ap ahead (sym (drop-drop (q - p) p s)) ∙ none-behind (q - p) (drop p s) e
+
+-- the same of what the code answers
+barren-none : (o : Option ℕ) → skipOf o .barren ≡ true → o ≡ none
+unfolding skipOf
+barren-none none e = refl
+barren-none (some m) e = absurd (true≢false (sym e))
+
+none-barren : (o : Option ℕ) → o ≡ none → skipOf o .barren ≡ true
+unfolding skipOf
+none-barren o e = rw e
+
+pub barren-later : (s : List ℕ) (p q : ℕ) → p ≤ q → seek (drop p s) .barren ≡ true → seek (drop q s) .barren ≡ true
+unfolding seek
+barren-later s p q h e = none-barren (ahead (drop q s)) (none-later s p q h (barren-none (ahead (drop p s)) e))
+
+-- ## A byte stands for a kind just where it is that kind's byte
+
+pub letter-of-byte : (k : Kind) → letterOf (byteOf k) ≡ Is k
+unfolding letterOf
+letter-of-byte Event = refl
+letter-of-byte Intra = refl
+letter-of-byte Inter = refl
+letter-of-byte Gps = refl
+letter-of-byte Home = refl
+letter-of-byte Slow = refl
+
+module _ (b : ℕ) (k : Kind) where
+  abbrev Right : Letter → Type 0
+  Right l = l ≡ Is k → b ≡ byteOf k
+
+  right : (j : Kind) → eqb b (byteOf j) ≡ true → Right (Is j)
+  right j e p = let q : j ≡ k = cc in eqb-true b (byteOf j) e ∙ ap byteOf q
+
+  other : Right Other
+  other p = let z : _≡_ {A = ℕ} 0 1 = cc in absurd (omega arith)
+
+  pub byte-of-letter : letterOf b ≡ Is k → b ≡ byteOf k
+  unfolding letterOf
+  byte-of-letter =
+      by-test Right (eqb b 69) (right Event)
+      (λ _. by-test Right (eqb b 73) (right Intra)
+      (λ _. by-test Right (eqb b 80) (right Inter)
+      (λ _. by-test Right (eqb b 71) (right Gps)
+      (λ _. by-test Right (eqb b 72) (right Home)
+      (λ _. by-test Right (eqb b 83) (right Slow) (λ _. other))))))

@@ -1,19 +1,20 @@
--- What every reader keeps to, stated once: locality, progress and stability. Each way of putting readers together keeps to it too,
+-- What the readers of a section keep to, stated once: locality, progress and stability. The ways of putting readers together keep to it,
 -- so that a reader's own proof is a line a step.
-use Prim.Native.Nat.{ℕ, zero, suc, _+_, _-_, _<_, _≤_}
-use mathlib.Core.Bool.{Bool, true, false, cond}
+use Prim.Native.Nat.{ℕ, zero, suc, _+_, _≤_}
+use mathlib.Core.Bool.{Bool, cond}
 use mathlib.Core.List.{List, [], _∷_, _++_}
 use mathlib.Core.Path.{_≡_, refl, sym, ap, subst, _∙_}
 use native.Mathlib.Omega.{arith}
 use lib.ListN.{length, drop, length-drop}
 use lib.Seq.{drop-append-le, drop-append-add}
+use Rattle.bits.proofs.Laws.{by-test}
 use Rattle.reader.specs.declared.Cursor.{Cursor}
 use Rattle.reader.specs.declared.Read.the-variants as read
 use Rattle.reader.specs.declared.Step.the-variants as step
-use Rattle.reader.specs.Got.{Spent, Got, got, cut, corrupt, over, after, Reader, onward, _>>=_, give, fault, byte, bytes}
+use Rattle.reader.specs.Got.{Spent, Got, got, cut, corrupt, after, Reader, onward, _>>=_, give, fault, byte, bytes}
 use Rattle.reader.specs.Place.{rest, on, readAt, groupAt}
 
--- Locality, for any reader at all: the reading at |pre| + k of pre ++ c is the reading at k of c.
+-- Locality, for any reader at all: the reading at |pre| + k of pre ++ c is the reading at k of c (what is read and what is spent; the places differ by |pre|).
 pub local : {A : Type 0} (f : Reader A) (pre c : List ℕ) (k : ℕ) → f (rest (record { at = length pre + k }) (pre ++ c)) ≡ f (rest (record { at = k }) c)
 local f pre c k = ap f (drop-append-add pre c k)
 
@@ -60,7 +61,7 @@ byte-stable (b ∷ c) d = refl
 pub lawful-byte : Lawful 1 byte
 lawful-byte = record { within = byte-within; stable = byte-stable }
 
--- ## Fewer bytes asked, a choice, another value
+-- ## Fewer bytes asked, and a choice
 
 fewer : {A : Type 0} (l m : ℕ) (c : List ℕ) (g : Got A) → l ≤ m → Within m c g → Within l c g
 fewer l m c (got a u) h w = omega arith
@@ -71,24 +72,7 @@ pub lawful-fewer : {A : Type 0} (l : ℕ) {m : ℕ} {f : Reader A} → l ≤ m �
 lawful-fewer l {m} {f} h r = record { within = λ c. fewer l m c (f c) h (r .within c); stable = r .stable }
 
 pub lawful-cond : {A : Type 0} {l : ℕ} {f g : Reader A} (t : Bool) → Lawful l f → Lawful l g → Lawful l (cond t f g)
-lawful-cond true p q = p
-lawful-cond false p q = q
-
-over-within : {A B : Type 0} (h : A → B) (l : ℕ) (c : List ℕ) (g : Got A) → Within l c g → Within l c (over h g)
-unfolding over
-over-within h l c (got a u) w = w
-over-within h l c cut w = tt
-over-within h l c corrupt w = tt
-
-over-kept : {A B : Type 0} (h : A → B) (g g′ : Got A) → Kept g g′ → Kept (over h g) (over h g′)
-unfolding over
-over-kept h (got a u) g′ e = ap (over h) e
-over-kept h cut g′ e = tt
-over-kept h corrupt g′ e = ap (over h) e
-
-pub lawful-over : {A B : Type 0} (h : A → B) {l : ℕ} {f : Reader A} → Lawful l f → Lawful l (λ c. over h (f c))
-lawful-over h {l} {f} r =
-    record { within = λ c. over-within h l c (f c) (r .within c); stable = λ c d. over-kept h (f c) (f (c ++ d)) (r .stable c d) }
+lawful-cond {l = l} t p q = by-test (Lawful l) t (λ e. p) (λ e. q)
 
 -- ## One reader after another
 

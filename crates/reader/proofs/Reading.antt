@@ -1,8 +1,8 @@
 -- Readings put together: the laws of `over`, `after` and `_>>=_`, and what they come to at the places of a section.
 -- The laws at places are stated over F, what the code answers for a reading at a place, whatever the type of its answer.
-use Prim.Native.Nat.{ℕ, _+_}
+use Prim.Native.Nat.{ℕ}
 use mathlib.Core.List.{List}
-use mathlib.Core.Path.{_≡_, refl, sym, ap, ap₂, _∙_}
+use mathlib.Core.Path.{_≡_, refl, sym, ap, _∙_}
 use native.Mathlib.Nat.{add-assoc, add-zero, zero-add}
 use lib.ListN.{drop}
 use lib.Seq.{drop-drop}
@@ -47,6 +47,13 @@ onward-give f c corrupt = refl
 pub over-map : {A B C : Type 0} (f : B → C) (h : A → B) (r : Reader A) (c : List ℕ) → over f (_>>=_ r (λ a. give (h a)) c) ≡ over (λ a. f (h a)) (r c)
 unfolding _>>=_
 over-map f h r c = ap (over f) (onward-give h c (r c)) ∙ over-over h f (r c)
+
+-- what is read behind is what the continuation comes to
+pub onward-same : {A B : Type 0} (k l : A → Reader B) → ((a : A) (d : List ℕ) → k a d ≡ l a d) → (c : List ℕ) (g : Got A) → onward k c g ≡ onward l c g
+unfolding onward
+onward-same k l same c (got a u) = ap (after u) (same a (drop (u .bytes) c))
+onward-same k l same c cut = refl
+onward-same k l same c corrupt = refl
 
 -- the value is changed behind the last reading
 pub over-onward : {A B C : Type 0} (f : B → C) (k : A → Reader B) (c : List ℕ) (g : Got A) → over f (onward k c g) ≡ onward (λ a d. over f (k a d)) c g

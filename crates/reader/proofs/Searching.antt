@@ -1,7 +1,7 @@
 -- The search byte by byte, as the code goes about it.
-use Prim.Native.Nat.{ℕ, zero, suc, _+_, _-_, _<_, _≤_}
+use Prim.Native.Nat.{ℕ, _+_, _-_, _<_, _≤_}
 use mathlib.Core.Bool.{Bool, true, false, cond}
-use mathlib.Core.List.{List, [], _∷_}
+use mathlib.Core.List.{List}
 use mathlib.Core.Option.{Option, none, some}
 use mathlib.Core.Path.{_≡_, refl, sym, ap, _∙_}
 use native.Mathlib.Numerals.{add-one}
@@ -15,20 +15,20 @@ use Rattle.reader.specs.declared.Letter.the-variants.{Is, Other}
 use Rattle.reader.specs.declared.Skip.{Skip}
 use Rattle.reader.specs.Search.{letterOf, searched, further, ahead, skipOf, seek}
 
--- how far ahead, seen from n bytes before
-unfoldable pub from : ℕ → Option ℕ → Option ℕ
-from n none = none
-from n (some m) = some (n + m)
+-- how far ahead, seen furtherBy n bytes before
+unfoldable pub furtherBy : ℕ → Option ℕ → Option ℕ
+furtherBy n none = none
+furtherBy n (some m) = some (n + m)
 
-from-here : (o : Option ℕ) → from 0 o ≡ o
-unfolding from
-from-here none = refl
-from-here (some m) = ap some (omega arith)
+further-none : (o : Option ℕ) → furtherBy 0 o ≡ o
+unfolding furtherBy
+further-none none = refl
+further-none (some m) = ap some (omega arith)
 
-from-further : (n : ℕ) (o : Option ℕ) → from n (further o) ≡ from (n + 1) o
-unfolding from
-from-further n none = refl
-from-further n (some m) = ap some (omega arith)
+further-on : (n : ℕ) (o : Option ℕ) → furtherBy n (further o) ≡ furtherBy (n + 1) o
+unfolding furtherBy
+further-on n none = refl
+further-on n (some m) = ap some (omega arith)
 
 -- the byte at i, and what lies behind it
 ahead-at : (s : List ℕ) (i : ℕ) → i < length s
@@ -47,10 +47,10 @@ passed b h = rw (ne-eqb b 69 (h .0), ne-eqb b 73 (h .1), ne-eqb b 71 (h .3), ne-
 
 -- a search from `start` has come to i: nothing lies between
 pub record Come (s : List ℕ) (start i : ℕ) : Type 0 where
-  pub is : ahead (drop start s) ≡ from (i - start) (ahead (drop i s))
+  pub is : ahead (drop start s) ≡ furtherBy (i - start) (ahead (drop i s))
 
 pub come-here : (s : List ℕ) (start : ℕ) → Come s start start
-come-here s start = let z : start - start ≡ 0 = omega arith in record { is = rw (z, from-here) }
+come-here s start = let z : start - start ≡ 0 = omega arith in record { is = rw (z, further-none) }
 
 module _ (s : List ℕ) (start i : ℕ) where
   pub come-on : {b : Bool} → Come s start i → b ≡ searched (letterOf (getD s i 0)) → b ≡ false → i < length s → start ≤ i → Come s start (i + 1)
@@ -58,21 +58,21 @@ module _ (s : List ℕ) (start i : ℕ) where
       let miss : searched (letterOf (getD s i 0)) ≡ false = sym e ∙ f in
       let z : i + 1 - start ≡ (i - start) + 1 = omega arith in
       record {
-        is = come .is ∙ ap (from (i - start)) (ahead-at s i lt ∙ rw miss) ∙ from-further (i - start) (ahead (drop (i + 1) s)) ∙ ap (λ n. from n (ahead (drop (i + 1) s))) (sym z);
+        is = come .is ∙ ap (furtherBy (i - start)) (ahead-at s i lt ∙ rw miss) ∙ further-on (i - start) (ahead (drop (i + 1) s)) ∙ ap (λ n. furtherBy n (ahead (drop (i + 1) s))) (sym z);
       }
 
   pub come-found : {b : Bool} → Come s start i → b ≡ searched (letterOf (getD s i 0)) → b ≡ true → i < length s
       → _≡_ {A = Skip} (record { by = i - start; barren = false }) (seek (drop start s))
-  unfolding seek skipOf from
+  unfolding seek skipOf furtherBy
   come-found come e f lt =
       let hit : searched (letterOf (getD s i 0)) ≡ true = sym e ∙ f in
       let here : ahead (drop i s) ≡ some 0 = ahead-at s i lt ∙ rw hit in
-      let found : ahead (drop start s) ≡ some (i - start + 0) = come .is ∙ ap (from (i - start)) here in
+      let found : ahead (drop start s) ≡ some (i - start + 0) = come .is ∙ ap (furtherBy (i - start)) here in
       let z : i - start + 0 ≡ i - start = omega arith in
       rw (found, z)
 
   pub come-end : Come s start i → length s ≤ i → _≡_ {A = Skip} (record { by = 0; barren = true }) (seek (drop start s))
-  unfolding seek skipOf from ahead
+  unfolding seek skipOf furtherBy ahead
   come-end come le =
       let over : ahead (drop i s) ≡ none = rw (drop-of-length-le s le) in
-      rw (come .is ∙ ap (from (i - start)) over)
+      rw (come .is ∙ ap (furtherBy (i - start)) over)

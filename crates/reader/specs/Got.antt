@@ -3,7 +3,7 @@ use Prim.Native.Nat.{ℕ, zero, suc, _+_}
 use mathlib.Core.List.{List, [], _∷_}
 use lib.ListN.{drop}
 
--- what a reading takes from the section
+-- what a reading takes from the section: a count of bytes, kept apart from places
 pub record Spent : Type 0 where
   pub bytes : ℕ
 

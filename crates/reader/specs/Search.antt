@@ -1,5 +1,5 @@
 -- The bytes that frames begin with, and the search for the next of them (document 01, "The walk").
-use Prim.Native.Nat.{ℕ, zero, suc}
+use Prim.Native.Nat.{ℕ, suc}
 use mathlib.Core.Bool.{Bool, true, false, cond}
 use mathlib.Core.List.{List, [], _∷_}
 use mathlib.Core.Option.{Option, none, some}
@@ -10,15 +10,24 @@ use Rattle.reader.specs.declared.Letter.{Letter}
 use Rattle.reader.specs.declared.Letter.the-variants.{Is, Other}
 use Rattle.reader.specs.declared.Skip.{Skip}
 
--- the six bytes: E 69, I 73, P 80, G 71, H 72, S 83
+-- the byte of each kind: E I P G H S
+abbrev pub byteOf : Kind → ℕ
+byteOf Event = 69
+byteOf Intra = 73
+byteOf Inter = 80
+byteOf Gps = 71
+byteOf Home = 72
+byteOf Slow = 83
+
+-- the kind that a byte stands for, if any
 unfoldable pub letterOf : ℕ → Letter
 letterOf b =
-    cond (eqb b 69) (Is Event)
-    (cond (eqb b 73) (Is Intra)
-    (cond (eqb b 80) (Is Inter)
-    (cond (eqb b 71) (Is Gps)
-    (cond (eqb b 72) (Is Home)
-    (cond (eqb b 83) (Is Slow) Other)))))
+    cond (eqb b (byteOf Event)) (Is Event)
+    (cond (eqb b (byteOf Intra)) (Is Intra)
+    (cond (eqb b (byteOf Inter)) (Is Inter)
+    (cond (eqb b (byteOf Gps)) (Is Gps)
+    (cond (eqb b (byteOf Home)) (Is Home)
+    (cond (eqb b (byteOf Slow)) (Is Slow) Other)))))
 
 -- a search goes to the next of E I S G H, not P
 unfoldable pub searched : Letter → Bool

@@ -9,7 +9,7 @@ pub struct Cursor {
     pub at: usize,
 }
 
-// A place to go back to, never a count or a length: where a trial starts, behind its kind byte.
+// A place to go back to, never a count or a length: behind a trial's kind byte, where the search begins if the trial is rejected.
 pub struct RestorePoint(pub usize);
 
 // A byte and the place behind it.
@@ -127,7 +127,7 @@ fn stops(b: u8) -> bool
     }
 }
 
-// The search for the next frame, from a place on.
+// How far ahead the next of E I S G H stands, the byte at `from` included; P is passed over.
 pub fn skip_to_frame(s: &[u8], from: RestorePoint) -> Skip
     ensures { λ r. ⌜ SkipToFrameOwes (now (s .entry)) from r ⌝ }
 {

@@ -1,4 +1,4 @@
--- How a group whose head tells its size is answered: none where the bytes end before it does, and else the values and the place behind.
+-- How a group whose head tells its size is answered: cut where the bytes end before it does, and else the values and the place behind.
 use Prim.Native.Nat.{ℕ, _+_, _-_, _<_, _≤_}
 use mathlib.Core.List.{List, map}
 use mathlib.Core.Path.{_≡_, _∙_, ap}
@@ -15,11 +15,11 @@ use Rattle.reader.specs.Place.{rest, padded, noValues, groupAt}
 use Rattle.tagged.proofs.Fixed.{Fixed}
 
 -- the head is the first byte, and tells the size, never none, and the values
-pub record Headed (enc : Reader (List ℤ)) (size : ℕ → ℕ) (vals : ℕ → List ℕ → List ℤ) : Type 0 where
+pub record SizedByHead (enc : Reader (List ℤ)) (size : ℕ → ℕ) (vals : ℕ → List ℕ → List ℤ) : Type 0 where
   pub some : (head : ℕ) → 0 < size head
   pub fixed : (c : List ℕ) → Fixed enc c (size (getD c 0 0)) (vals (getD c 0 0) c)
 
-module _ {enc : Reader (List ℤ)} {size : ℕ → ℕ} {vals : ℕ → List ℕ → List ℤ} (told : Headed enc size vals) (s : List ℕ) (from : Cursor) where
+module _ {enc : Reader (List ℤ)} {size : ℕ → ℕ} {vals : ℕ → List ℕ → List ℤ} (told : SizedByHead enc size vals) (s : List ℕ) (from : Cursor) where
   here : Fixed enc (rest from s) (size (getD s (from .at) 0)) (vals (getD s (from .at) 0) (rest from s))
   here =
       let z : from .at + 0 ≡ from .at = omega arith in

@@ -1,4 +1,5 @@
--- Readings of a fixed size: the value where the bytes are there, cut where they are not. Each way to put readers together keeps this.
+-- Readings of a fixed size: the value where the bytes are there, cut where they are not.
+-- `give`, `byte`, `bytes`, one reader behind another and a choice of four keep this.
 use Prim.Native.Nat.{ℕ, zero, suc, _+_, _<_, _≤_}
 use mathlib.Core.Bool.{Bool, true, false}
 use mathlib.Core.List.{List, [], _∷_}

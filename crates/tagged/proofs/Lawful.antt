@@ -1,4 +1,4 @@
--- Progress and stability of encodings 7 and 8. How many bytes a head asks for is in Fixed.antt.
+-- Progress and stability of encodings 7 and 8. How many bytes a head asks for is said by `headed7` and `headed8` (Numbers7, Numbers8).
 use Prim.Native.Nat.{ℕ, _/_}
 use native.Mathlib.Omega.{arith}
 use Rattle.reader.proofs.Lawful.{Lawful, lawful-give, lawful-byte, lawful-bytes, lawful-fewer, lawful-then, lawful-map}

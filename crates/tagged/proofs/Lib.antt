@@ -1,4 +1,5 @@
 pub mod Choice
+pub mod Counted
 pub mod Ends
 pub mod Fixed
 pub mod Lawful

@@ -1,5 +1,5 @@
 -- What the numbers mean: of bytes, encodings 7 and 8 give only integers that 32 bits can mean, so that nothing is lost where they leave as patterns.
-use Prim.Native.Nat.{ℕ, zero, suc, _+_, _*_, _/_, _%_, _^_, _≤_, _<_}
+use Prim.Native.Nat.{ℕ, zero, suc, _*_, _/_, _^_, _≤_, _<_}
 use mathlib.Core.List.{List, [], _∷_, map}
 use mathlib.Core.Path.{_≡_, sym, ap, _∙_}
 use native.Mathlib.Nat.{mul-zero, mul-suc, pow-zero, pow-suc, pow-succ', lt-of-lt-of-le}

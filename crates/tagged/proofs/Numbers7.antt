@@ -11,12 +11,12 @@ use Rattle.bits.proofs.Laws.{pattern-meant}
 use Rattle.reader.specs.Place.{padded}
 use Rattle.tagged.specs.Sized.{signedFrom, sizeBy, size7, valuesBy, values7}
 use Rattle.tagged.specs.Tagged32.{twoBits, fourBits, sixBits, little, signedBytes, wholeBytes, encoding7}
-use Rattle.tagged.proofs.Ends.{Headed}
+use Rattle.tagged.proofs.Ends.{SizedByHead}
 use Rattle.tagged.proofs.Fixed.{Fixed, recast, given, one-byte, then, some-bytes, chosen}
 
 -- m bytes on from index i
-on : {d : List ℕ} (c : List ℕ) (m i j : ℕ) → i + m ≡ j → d ≡ drop i c → drop m d ≡ drop j c
-on c m i j e f = rw (f, drop-drop m i c, e)
+on-from : {d : List ℕ} (c : List ℕ) (m i j : ℕ) → i + m ≡ j → d ≡ drop i c → drop m d ≡ drop j c
+on-from c m i j e f = rw (f, drop-drop m i c, e)
 
 -- n bytes from index i on
 signed-bytes : {d : List ℕ} (n : ℕ) (c : List ℕ) (i : ℕ) → d ≡ drop i c → Fixed (signedBytes n) d n (signedFrom n c i)
@@ -41,9 +41,9 @@ module _ (c : List ℕ) (head : ℕ) where
   whole-bytes : Fixed (wholeBytes head) (drop 1 c) (3 + head % 4 + head / 4 % 4 + head / 16 % 4) (valuesBy 3 head c)
   unfolding wholeBytes
   whole-bytes =
-      let y : drop (1 + head % 4) (drop 1 c) ≡ drop (2 + head % 4) c = on c (1 + head % 4) 1 (2 + head % 4) (omega arith) refl in
+      let y : drop (1 + head % 4) (drop 1 c) ≡ drop (2 + head % 4) c = on-from c (1 + head % 4) 1 (2 + head % 4) (omega arith) refl in
       let z : drop (1 + head / 4 % 4) (drop (1 + head % 4) (drop 1 c)) ≡ drop (3 + head % 4 + head / 4 % 4) c =
-      on c (1 + head / 4 % 4) (2 + head % 4) (3 + head % 4 + head / 4 % 4) (omega arith) y in
+      on-from c (1 + head / 4 % 4) (2 + head % 4) (3 + head % 4 + head / 4 % 4) (omega arith) y in
       recast
       (then _ (signed-bytes (1 + head % 4) c 1 refl)
       (then _ (signed-bytes (1 + head / 4 % 4) c (2 + head % 4) y)
@@ -59,7 +59,7 @@ some7 : (head : ℕ) → 0 < size7 head
 unfolding size7
 some7 head = omega arith
 
-pub headed7 : Headed encoding7 size7 values7
+pub headed7 : SizedByHead encoding7 size7 values7
 headed7 = record { some = some7; fixed = fixed7 }
 
 -- n bytes from i on, one by one
@@ -71,8 +71,8 @@ little-from : (n : ℕ) (s : List ℕ) (i : ℕ) → i + n ≤ length s → litt
 unfolding little
 little-from zero s i h = refl
 little-from (suc n) s i h =
-    let on : i + 1 + n ≤ length s = omega arith in
-    rw (drop-cons s i 0 (omega arith), ← add-one i, little-from n s (i + 1) on)
+    let more : i + 1 + n ≤ length s = omega arith in
+    rw (drop-cons s i 0 (omega arith), ← add-one i, little-from n s (i + 1) more)
 
 -- m + 1 bytes, m written out
 pub bytes-are : (m : ℕ) (s : List ℕ) (at : ℕ) {n r v : ℕ} → r ≡ pattern (lowered (2 ^ (8 * (1 + m))) v) → n ≡ m → (v ≡ littleFrom (1 + m) s at) × (at + n < length s)

@@ -8,9 +8,9 @@ use lib.Seq.{take-nil, drop-cons, drop-drop, getD-drop, take-take, length-take-l
 use Rattle.bits.specs.Pattern.{pattern, lowered, signed}
 use Rattle.reader.specs.Place.{padded}
 use Rattle.tagged.specs.Choose.{pairs, choose}
-use Rattle.tagged.specs.Sized.{behind, packedFrom, size8, values8}
+use Rattle.tagged.specs.Sized.{halvesBehind, packedFrom, size8, values8}
 use Rattle.tagged.specs.Tagged16.{width, widths, halves, big, unpacked, encoding8}
-use Rattle.tagged.proofs.Ends.{Headed}
+use Rattle.tagged.proofs.Ends.{SizedByHead}
 use Rattle.tagged.proofs.Fixed.{Fixed, recast, given, one-byte, then, some-bytes}
 
 -- two halves a byte
@@ -35,13 +35,14 @@ halves-at [] j = (refl, refl)
 halves-at (b ∷ d) zero = (refl, refl)
 halves-at (b ∷ d) (suc j) = rw (twice j) (halves-at d j)
 
--- codes need no more than their half bytes
+-- a part of a beginning is the beginning of a part
 drop-take : (w m : ℕ) (hs : List ℕ) → w ≤ m → drop w (take m hs) ≡ take (m - w) (drop w hs)
 drop-take zero m hs h = let z : m - 0 ≡ m = omega arith in rw z
 drop-take (suc w) zero hs h = absurd (omega arith)
 drop-take (suc w) (suc m) [] h = sym (take-nil (suc m - suc w))
 drop-take (suc w) (suc m) (x ∷ hs) h = let z : suc m - suc w ≡ m - w = omega arith in rw z (drop-take w m hs (omega arith))
 
+-- codes need no more than their half bytes
 unpacked-take : (codes : List ℕ) (m : ℕ) (hs : List ℕ) → widths codes ≤ m → unpacked codes (take m hs) ≡ unpacked codes hs
 unfolding unpacked widths
 unpacked-take [] m hs h = refl
@@ -60,7 +61,7 @@ some8 : (head : ℕ) → 0 < size8 head
 unfolding size8
 some8 head = omega arith
 
-pub headed8 : Headed encoding8 size8 values8
+pub headed8 : SizedByHead encoding8 size8 values8
 headed8 = record { some = some8; fixed = fixed8 }
 
 -- k half bytes and j more, where j is written out
@@ -92,30 +93,30 @@ unfolding width
 width-at m e = rw e
 
 -- a place has as many half bytes behind it
-behind-length : (s : List ℕ) (at : ℕ) → length (behind at s) ≡ 2 * (length s - at - 1)
-unfolding behind
+behind-length : (s : List ℕ) (at : ℕ) → length (halvesBehind at s) ≡ 2 * (length s - at - 1)
+unfolding halvesBehind
 behind-length s at = rw (length-halves, length-drop, length-drop)
 
 -- and the number of a code, written out, from half byte k on
 pub packed-is : (m : ℕ) (s : List ℕ) (at k : ℕ) {code r x : ℕ} → r ≡ pattern (lowered (2 ^ (4 * choose m 0 1 2 4)) x) → code ≡ m
-    → (x ≡ bigFrom (choose m 0 1 2 4) (behind at s) k 0) × (at + (1 + (k + width code + 1) / 2) ≤ length s)
-    → r ≡ pattern (packedFrom code (behind at s) k)
+    → (x ≡ bigFrom (choose m 0 1 2 4) (halvesBehind at s) k 0) × (at + (1 + (k + width code + 1) / 2) ≤ length s)
+    → r ≡ pattern (packedFrom code (halvesBehind at s) k)
 unfolding packedFrom signed
 packed-is m s at k {code} f e h =
     let w : width code ≡ choose m 0 1 2 4 = width-at m e in
-    let l : k + 0 + choose m 0 1 2 4 ≤ length (behind at s) = omega (arith, behind-length s at) in
-    f ∙ rw (w, big-from (choose m 0 1 2 4) (behind at s) k 0 l, h .0)
+    let l : k + 0 + choose m 0 1 2 4 ≤ length (halvesBehind at s) = omega (arith, behind-length s at) in
+    f ∙ rw (w, big-from (choose m 0 1 2 4) (halvesBehind at s) k 0 l, h .0)
 
 -- the half bytes of byte j behind the head at a place, and half byte k
 module _ (s : List ℕ) (at : ℕ) where
-  behind-at : (j : ℕ) → (getD (behind at s) (2 * j) 0 ≡ getD s (at + (1 + j)) 0 / 16) × (getD (behind at s) (suc (2 * j)) 0 ≡ getD s (at + (1 + j)) 0 % 16)
-  unfolding behind
+  behind-at : (j : ℕ) → (getD (halvesBehind at s) (2 * j) 0 ≡ getD s (at + (1 + j)) 0 / 16) × (getD (halvesBehind at s) (suc (2 * j)) 0 ≡ getD s (at + (1 + j)) 0 % 16)
+  unfolding halvesBehind
   behind-at j = simp getD-drop at (halves-at (drop 1 (drop at s)) j)
 
-  pub half-even : (k : ℕ) {b : ℕ} → b ≡ getD s (at + (1 + k / 2)) 0 → k % 2 ≡ 0 → b / 16 ≡ getD (behind at s) k 0
+  pub half-even : (k : ℕ) {b : ℕ} → b ≡ getD s (at + (1 + k / 2)) 0 → k % 2 ≡ 0 → b / 16 ≡ getD (halvesBehind at s) k 0
   half-even k e z = let q : 2 * (k / 2) ≡ k = omega arith in rw e (sym (rw q at (behind-at (k / 2) .0)))
 
-  pub half-odd : (k : ℕ) {b : ℕ} → b ≡ getD s (at + (1 + k / 2)) 0 → (k % 2 ≡ 0 → ⊥) → b % 16 ≡ getD (behind at s) k 0
+  pub half-odd : (k : ℕ) {b : ℕ} → b ≡ getD s (at + (1 + k / 2)) 0 → (k % 2 ≡ 0 → ⊥) → b % 16 ≡ getD (halvesBehind at s) k 0
   half-odd k e z = let q : suc (2 * (k / 2)) ≡ k = omega arith in rw e (sym (rw q at (behind-at (k / 2) .1)))
 
 -- the four codes of a head
@@ -131,17 +132,17 @@ module _ (head : ℕ) (h : head < 256) where
   size8-is = rw (third, fourth) (omega arith)
 
   values8-are : (s : List ℕ) (at : ℕ) → values8 head (drop at s)
-      ≡ packedFrom (head % 4) (behind at s) 0
-      ∷ packedFrom (head / 4 % 4) (behind at s) (width (head % 4))
-      ∷ packedFrom (head / 16 % 4) (behind at s) (width (head % 4) + width (head / 4 % 4))
-      ∷ packedFrom (head / 64) (behind at s) (width (head % 4) + width (head / 4 % 4) + width (head / 16 % 4))
+      ≡ packedFrom (head % 4) (halvesBehind at s) 0
+      ∷ packedFrom (head / 4 % 4) (halvesBehind at s) (width (head % 4))
+      ∷ packedFrom (head / 16 % 4) (halvesBehind at s) (width (head % 4) + width (head / 4 % 4))
+      ∷ packedFrom (head / 64) (halvesBehind at s) (width (head % 4) + width (head / 4 % 4) + width (head / 16 % 4))
       ∷ []
-  unfolding values8 behind unpacked pairs packedFrom
+  unfolding values8 halvesBehind unpacked pairs packedFrom
   values8-are s at = rw (third, fourth) (simp drop-drop)
 
-  -- one behind the other: i, j and l are the widths of the first three
-  pub values8-from : (s : List ℕ) (at : ℕ) {i j l p q r t : ℕ} → i ≡ width (head % 4) → j ≡ width (head / 4 % 4) → l ≡ width (head / 16 % 4)
-      → p ≡ pattern (packedFrom (head % 4) (behind at s) 0) → q ≡ pattern (packedFrom (head / 4 % 4) (behind at s) i)
-      → r ≡ pattern (packedFrom (head / 16 % 4) (behind at s) (i + j)) → t ≡ pattern (packedFrom (head / 64) (behind at s) (i + j + l))
+  -- one behind the other: w₀, w₁ and w₂ are the widths of the first three
+  pub values8-from : (s : List ℕ) (at : ℕ) {w₀ w₁ w₂ p q r t : ℕ} → w₀ ≡ width (head % 4) → w₁ ≡ width (head / 4 % 4) → w₂ ≡ width (head / 16 % 4)
+      → p ≡ pattern (packedFrom (head % 4) (halvesBehind at s) 0) → q ≡ pattern (packedFrom (head / 4 % 4) (halvesBehind at s) w₀)
+      → r ≡ pattern (packedFrom (head / 16 % 4) (halvesBehind at s) (w₀ + w₁)) → t ≡ pattern (packedFrom (head / 64) (halvesBehind at s) (w₀ + w₁ + w₂))
       → p ∷ q ∷ r ∷ t ∷ 0 ∷ 0 ∷ 0 ∷ 0 ∷ [] ≡ padded 8 (map pattern (values8 head (drop at s)))
   values8-from s at e f g u v w x = cc (values8-are s at)

@@ -7,6 +7,7 @@ unfoldable pub pairs : ℕ → ℕ → List ℕ
 pairs zero v = []
 pairs (suc n) v = v % 4 ∷ pairs n (v / 4)
 
+-- 0 chooses the first, 1 the second, 2 the third, 3 the fourth; no two bits are more
 abbrev pub choose : {A : Type 0} → ℕ → A → A → A → A → A
 choose zero a b c d = a
 choose (suc zero) a b c d = b

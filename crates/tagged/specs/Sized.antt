@@ -33,8 +33,8 @@ unfoldable pub values7 : ℕ → List ℕ → List ℤ
 values7 head c = valuesBy (head / 64) head c
 
 -- encoding 8: the half bytes behind a head at a place, and the value of a code from half byte k of them on
-unfoldable pub behind : ℕ → List ℕ → List ℕ
-behind at s = halves (drop 1 (drop at s))
+unfoldable pub halvesBehind : ℕ → List ℕ → List ℕ
+halvesBehind at s = halves (drop 1 (drop at s))
 
 unfoldable pub packedFrom : ℕ → List ℕ → ℕ → ℤ
 packedFrom code hs k = signed (4 * width code) (big (take (width code) (drop k hs)))

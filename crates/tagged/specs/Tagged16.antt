@@ -1,5 +1,6 @@
--- Encoding 8: four signed numbers behind a head of four codes, packed in half bytes (document 01, "Numbers in a section").
-use Prim.Native.Nat.{ℕ, zero, suc, _+_, _*_, _/_, _%_, _^_}
+-- Encoding 8: four numbers behind a head of four codes, packed in half bytes (document 01, "Numbers in a section"). A short group reads all four
+-- too; whoever asked drops the rest.
+use Prim.Native.Nat.{ℕ, _+_, _*_, _/_, _%_, _^_}
 use mathlib.Core.List.{List, [], _∷_}
 use lib.ListN.{length, take, drop}
 use lib.IntN.{ℤ}
@@ -26,7 +27,7 @@ unfoldable pub big : List ℕ → ℕ
 big [] = 0
 big (x ∷ xs) = x * 16 ^ length xs + big xs
 
--- a value for each code, packed one behind the other
+-- a value for each code, packed one behind the other; signed, as those of encoding 7 are (docs/DECISIONS.md). No half bytes make 0.
 unfoldable pub unpacked : List ℕ → List ℕ → List ℤ
 unpacked [] hs = []
 unpacked (code ∷ codes) hs = signed (4 * width code) (big (take (width code) hs)) ∷ unpacked codes (drop (width code) hs)

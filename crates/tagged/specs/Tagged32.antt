@@ -1,5 +1,6 @@
 -- Encoding 7: three signed numbers behind a head whose top two bits choose their size (document 01, "Numbers in a section").
-use Prim.Native.Nat.{ℕ, zero, suc, _+_, _*_, _/_, _%_}
+-- A short group reads all three too; whoever asked drops the rest.
+use Prim.Native.Nat.{ℕ, _+_, _*_, _/_, _%_}
 use mathlib.Core.List.{List, [], _∷_}
 use lib.IntN.{ℤ}
 use Rattle.bits.specs.Pattern.{signed}
@@ -31,6 +32,7 @@ unfoldable pub little : List ℕ → ℕ
 little [] = 0
 little (b ∷ bs) = b + 256 * little bs
 
+-- n bytes, little end first, as a signed number
 unfoldable pub signedBytes : ℕ → Reader ℤ
 signedBytes n = do
   bs ← bytes n

@@ -6,7 +6,7 @@ ghost use lib.ListN.{length, drop, getD};
 ghost use Rattle.bits.specs.Pattern.{pattern};
 ghost use Rattle.reader.specs.Place.{padded};
 ghost use Rattle.tagged.specs.Owes.{Tagged16Owes};
-ghost use Rattle.tagged.specs.Sized.{behind, packedFrom, size8, values8};
+ghost use Rattle.tagged.specs.Sized.{halvesBehind, packedFrom, size8, values8};
 ghost use Rattle.tagged.specs.Tagged16 as Tagged16;
 use crate::sign_extend;
 use crate::wide;
@@ -17,7 +17,7 @@ use reader::Step;
 // Half byte k behind the head at `at`.
 fn half(s: &[u8], at: usize, k: usize) -> u32
     requires { ⌜ at + (1 + k / 2) < length (now s) ⌝ }
-    ensures { λ r. ⌜ (r ≡ getD (behind at (now (s .entry))) k 0) × (r < 16) ⌝ }
+    ensures { λ r. ⌜ (r ≡ getD (halvesBehind at (now (s .entry))) k 0) × (r < 16) ⌝ }
 {
     let b = wide(s[at + (1 + k / 2)]);
     if k % 2 == 0 { b / 16 } else { b % 16 }
@@ -39,7 +39,7 @@ fn width(code: u8) -> usize
 // The number of a code, from half byte k on.
 fn packed(s: &[u8], at: usize, code: u8, k: usize) -> u32
     requires { ⌜ (code < 4) × (at + (1 + (k + Tagged16.width code + 1) / 2) ≤ length (now s)) ⌝ }
-    ensures { λ r. ⌜ r ≡ pattern (packedFrom code (behind at (now (s .entry))) k) ⌝ }
+    ensures { λ r. ⌜ r ≡ pattern (packedFrom code (halvesBehind at (now (s .entry))) k) ⌝ }
 {
     match code {
         0 => 0,

@@ -13,7 +13,7 @@ use reader::Cursor;
 use reader::Group;
 use reader::Step;
 
-fn count(b: u8) -> usize
+fn index(b: u8) -> usize
     ensures { λ r. ⌜ r ≡ b ⌝ }
 {
     b as usize
@@ -51,7 +51,7 @@ fn size_of(head: u8) -> usize
         0 => 1,
         1 => 2,
         2 => 3,
-        _ => 4 + count(head % 4) + count(head / 4 % 4) + count(head / 16 % 4),
+        _ => 4 + index(head % 4) + index(head / 4 % 4) + index(head / 16 % 4),
     }
 }
 
@@ -104,8 +104,8 @@ fn values_of(s: &[u8], at: usize, head: u8) -> [u32; 8]
             let l = head / 16 % 4;
             [
                 signed_bytes(s, at + 1, i),
-                signed_bytes(s, at + (2 + count(i)), j),
-                signed_bytes(s, at + (3 + count(i) + count(j)), l),
+                signed_bytes(s, at + (2 + index(i)), j),
+                signed_bytes(s, at + (3 + index(i) + index(j)), l),
                 0,
                 0,
                 0,

@@ -1,5 +1,5 @@
 -- `decode::null` meets its contract. Assumes nothing.
-use mathlib.Core.Path.{_≡_, sym, ap}
+use mathlib.Core.Path.{sym, ap}
 use Rattle.reader.specs.declared.Read.the-variants.{Num}
 use Rattle.reader.specs.Got.{give}
 use Rattle.reader.specs.Place.{readAt}
