@@ -2,13 +2,13 @@
 -- the place of its bit.
 use Prim.Native.Nat.{ℕ, zero, suc, _+_, _/_, _%_, _^_, _<_, _≤_}
 use mathlib.Core.List.{List, [], _∷_}
-use mathlib.Core.Path.{_≡_, refl, sym, ap, _∙_}
+use mathlib.Core.Path.{_≡_, sym, ap, _∙_}
 use native.Mathlib.Nat.{pow-suc, zero-add}
 use native.Mathlib.Omega.{arith}
 use lib.Count.{ones, onesIn, ones-step}
 use lib.IntN.{ℤ, pos}
 use lib.ListN.{getD, drop}
-use Rattle.reader.specs.Got.{over, Reader, onward, _>>=_, give}
+use Rattle.reader.specs.Got.{over, Reader, _>>=_, give}
 use Rattle.reader.proofs.Reading.{over-over, onward-give, onward-same, over-onward, give-onward}
 use Rattle.decode.specs.TaggedVariable.{marked, fields}
 use Rattle.decode.specs.Variable.{encoding0}
