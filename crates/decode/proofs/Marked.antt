@@ -34,7 +34,7 @@ laid-after vs i c u cut = refl
 laid-after vs i c u corrupt = refl
 
 -- over zeros, from the first on: the group
-pub laid-group : (c : Cursor) (g : Got (List ℤ)) → groupAt c (over (map pattern) g) ≡ laidAt (replicate 8 0) 0 c g
+laid-group : (c : Cursor) (g : Got (List ℤ)) → groupAt c (over (map pattern) g) ≡ laidAt (replicate 8 0) 0 c g
 unfolding groupAt over laidAt
 laid-group c (got zs u) = refl
 laid-group c cut = refl
@@ -59,7 +59,7 @@ module _ (s : List ℕ) (c : Cursor) where
   is-marked zero e h = absurd (h refl)
   is-marked (suc k) e h = e
 
--- ## A field and the fields behind it
+-- ## A field and the fields behind it: the three answers for the field
 
 module _ (s : List ℕ) (vs : List ℕ) (i : ℕ) (p : Cursor) (k bits : ℕ) (r : Read) where
   abbrev Behind : ℤ → List ℕ → Got (List ℤ)

@@ -17,6 +17,8 @@ use Rattle.decode.specs.Variable.{sevens, encoding1}
 abbrev before : ℕ → ℕ → ℕ
 before b v = 128 * v + (b - 128)
 
+-- ## The byte at a place, or none
+
 end : (n : ℕ) (s : List ℕ) (at : ℕ) → length s ≤ at → sevens n (drop at s) ≡ cut
 unfolding sevens _>>=_ byte onward
 end zero s at h = rw (drop-of-length-le s h)
@@ -42,6 +44,8 @@ module _ (s : List ℕ) (at : ℕ) (inside : at < length s) where
   high : 15 < getD s at 0 → sevens 0 (drop at s) ≡ corrupt
   unfolding sevens _>>=_ byte onward after fault
   high h = rw (drop-cons s at 0 inside, lt-leb (getD s at 0) 15 h)
+
+-- ## The way of `variable` through the bytes, and its answers
 
 -- reading from c has come to the place p: up to n more bytes with bit 7 set may follow, and `f` puts what was passed before what is still read
 pub record Come (s : List ℕ) (c : Cursor) (n : ℕ) (f : ℕ → ℕ) (p : ℕ) : Type 0 where

@@ -38,6 +38,7 @@ pub struct Group {
     pub values: [u32; 8],
 }
 
+// The kinds of frames, by their letters E I P G H S.
 pub enum Kind {
     Event,
     Intra,
@@ -47,6 +48,7 @@ pub enum Kind {
     Slow,
 }
 
+// What a byte stands for where a frame may begin.
 pub enum Letter {
     Is(Kind),
     Other,
@@ -86,6 +88,7 @@ impl Group {
     }
 }
 
+// The byte at a place.
 pub fn read_u8(s: &[u8], from: Cursor) -> Byte
     ensures { λ r. ⌜ ReadU8Owes (now (s .entry)) from r ⌝ }
 {
