@@ -150,15 +150,17 @@ def search_answer(place, data):
     return "nothing"
 
 
-def trial(encoding, n, data):
-    """What becomes of an intra frame whose fields after time are these bytes, unpredicted, with nothing behind them."""
-    s = Section(data, 0)
-    try:
-        values = numbers(encoding, n, s)
-    except Cut:
+def trial_of(answer, data):
+    """What becomes of an intra frame whose fields after time are these bytes, unpredicted, with nothing behind them, for an answer to them."""
+    if answer == "cut":
         return "cut"
-    except Corrupt:
+    if answer == "corrupt":
         return "rejected"
-    if s.place < len(data) and data[s.place] not in b"EIPGHS":
+    values, _, place = answer.partition(" next ")
+    if int(place) < len(data) and data[int(place)] not in b"EIPGHS":
         return "rejected"
-    return " ".join(["frame", *map(str, values)])
+    return f"frame {values}"
+
+
+def trial(encoding, n, data):
+    return trial_of(answer(encoding, n, 0, data), data)

@@ -1,11 +1,12 @@
 #!/usr/bin/env python3
-"""Compares the decoders here with the Rust's, through whole sections.
+"""Compares the readers, or the decoders here, with the Rust's, through whole sections.
 
-oracle.py BINARY [--cases N] [--seed N] [--record FILE]
+oracle.py BINARY [--numbers PROGRAM] [--cases N] [--seed N] [--record FILE]
 
 BINARY is the oracle, the Rust's walk over a section. Each case is the section `49 00 00 BYTES` under a definition whose fields
 after time are one full group of the encoding, without prediction, so that the frame's line shows the values that BYTES hold.
-N cases for each encoding, besides the edges. FILE gets some of the Rust's answers, for make.py --check.
+With PROGRAM, the built program numbers, it is the proved readers that are compared with the Rust, and with the decoders too; without it
+only the decoders are. N cases for each encoding, besides the edges. FILE gets some of the Rust's answers, for make.py --check.
 """
 import argparse
 import collections
@@ -17,7 +18,7 @@ import sys
 sys.dont_write_bytecode = True
 
 import decoders
-from make import seven, size_7, size_8
+from make import ROOM, seven, size_7, size_8
 
 GROUPS = [(1, 0), (0, 0), (3, 0), *((6, n) for n in range(1, 9)), (7, 0), (8, 0)]
 
@@ -90,6 +91,22 @@ def first_trial(answer):
     if end.startswith("end cut ") and " tried 1 " in end:
         return "cut"
     return "rejected"
+
+
+def read_by(program, cases):
+    """What the program numbers answers for each case, asked for as many at a time as it has room for."""
+    answers, batch, size = [], [], 0
+    for encoding, n, data in [*cases, (None, None, None)]:
+        line = "" if encoding is None else f"{encoding} {n} 0 {data.hex() or '-'}\n"
+        if batch and (encoding is None or size + len(line) > ROOM):
+            run = subprocess.run([program], input="".join(batch).encode("ascii"), stdout=subprocess.PIPE, check=True)
+            answers += [out.partition(" = ")[2] for out in run.stdout.decode("ascii").splitlines()]
+            batch, size = [], 0
+        batch.append(line)
+        size += len(line)
+    if len(answers) != len(cases):
+        sys.exit("oracle.py: the program did not answer every case")
+    return answers
 
 
 def any_seven(rng):
@@ -203,6 +220,7 @@ def record(path, inside, outside):
 def main():
     parser = argparse.ArgumentParser(description=__doc__, formatter_class=argparse.RawDescriptionHelpFormatter)
     parser.add_argument("binary")
+    parser.add_argument("--numbers", metavar="PROGRAM")
     parser.add_argument("--cases", type=int, default=40000)
     parser.add_argument("--seed", type=int, default=1)
     parser.add_argument("--record")
@@ -214,8 +232,11 @@ def main():
     outside = collections.defaultdict(Tally)
     for encoding, n in GROUPS:
         todo = cases(rng, encoding, n, options.cases // (8 if encoding == 6 else 1))
-        for case, rust in zip(todo, asked(options.binary, todo)):
-            here = decoders.trial(*case)
+        read = read_by(options.numbers, todo) if options.numbers else [decoders.answer(e, k, 0, d) for e, k, d in todo]
+        for case, rust, answer in zip(todo, asked(options.binary, todo), read):
+            if answer != decoders.answer(encoding, n, 0, case[2]):
+                sys.exit(f"oracle.py: for {shown(case, answer)} the decoders say {decoders.answer(encoding, n, 0, case[2])}")
+            here = decoders.trial_of(answer, case[2])
             why = departure(*case)
             if why:
                 outside[f"{why}, encoding {encoding}"].add(case, rust, here)
