@@ -163,4 +163,5 @@ def trial_of(answer, data):
 
 
 def trial(encoding, n, data):
+    """The same, for the answer of the decoders here."""
     return trial_of(answer(encoding, n, 0, data), data)

@@ -1,17 +1,11 @@
 -- A group of encoding 6 gives as many values as it has fields.
 use Prim.Native.Nat.{ℕ, zero, suc, _/_, _^_}
-use mathlib.Core.List.{List}
 use mathlib.Core.Path.{_≡_, refl, sym, ap}
 use lib.Dec.{ltb, leb, eqb}
-use lib.IntN.{ℤ}
-use lib.ListN.{length}
 use borrow.Author.Tests.{eqb-true}
 use Rattle.bits.proofs.Laws.{by-test}
-use Rattle.reader.proofs.Every.{Reads, then-reads, give-reads, fault-reads, any-reads}
+use Rattle.reader.proofs.Every.{Counts, Reads, then-reads, give-reads, fault-reads, any-reads}
 use Rattle.decode.specs.TaggedVariable.{fields, headed, alone, encoding6}
-
-abbrev Counts : ℕ → List ℤ → Type 0
-Counts n vs = length vs ≡ n
 
 fields-count : (n head : ℕ) → Reads (Counts n) (fields n head)
 unfolding fields
@@ -26,7 +20,7 @@ alone-count : (n : ℕ) → n ≡ 1 → Reads (Counts n) alone
 unfolding alone
 alone-count n e = then-reads (any-reads _) λ v _. give-reads _ (sym e)
 
-pub encoding6-count : (n : ℕ) → Reads (λ vs. length vs ≡ n) (encoding6 n)
+pub encoding6-count : (n : ℕ) → Reads (Counts n) (encoding6 n)
 unfolding encoding6
 encoding6-count n =
     by-test (Reads (Counts n)) (eqb n 0) (λ e. fault-reads)

@@ -13,6 +13,10 @@ abbrev pub Each : {A : Type 0} → (A → Type 0) → List A → Type 0
 Each P [] = Unit
 Each P (x ∷ xs) = P x × Each P xs
 
+-- a list of so many
+abbrev pub Counts : {A : Type 0} → ℕ → List A → Type 0
+Counts n xs = length xs ≡ n
+
 -- what a section is made of
 abbrev pub Bytes : List ℕ → Type 0
 Bytes c = Each (λ b. b < 256) c

@@ -2,18 +2,14 @@
 use Prim.Native.Nat.{ℕ, zero, suc, _/_}
 use mathlib.Core.List.{List, [], _∷_}
 use mathlib.Core.Path.{_≡_, refl, ap, _∙_}
-use lib.IntN.{ℤ}
 use lib.ListN.{length, drop}
-use Rattle.reader.proofs.Every.{Reads, then-reads, give-reads, any-reads}
+use Rattle.reader.proofs.Every.{Counts, Reads, then-reads, give-reads, any-reads}
 use Rattle.tagged.specs.Choose.{pairs}
 use Rattle.tagged.specs.Tagged16.{width, unpacked, encoding8}
 use Rattle.tagged.specs.Tagged32.{twoBits, fourBits, sixBits, wholeBytes, encoding7}
 use Rattle.tagged.proofs.Choice.{by-choice}
 
-abbrev Counts : ℕ → List ℤ → Type 0
-Counts n vs = length vs ≡ n
-
-pub encoding7-count : Reads (λ vs. length vs ≡ 3) encoding7
+pub encoding7-count : Reads (Counts 3) encoding7
 unfolding encoding7 twoBits fourBits sixBits wholeBytes
 encoding7-count =
     then-reads (any-reads _) λ head _.
@@ -33,7 +29,7 @@ unfolding unpacked
 unpacked-count [] hs = refl
 unpacked-count (code ∷ codes) hs = ap suc (unpacked-count codes (drop (width code) hs))
 
-pub encoding8-count : Reads (λ vs. length vs ≡ 4) encoding8
+pub encoding8-count : Reads (Counts 4) encoding8
 unfolding encoding8
 encoding8-count =
     then-reads (any-reads _) λ head _. then-reads (any-reads _) λ bs _. give-reads _ (unpacked-count (pairs 4 head) _ ∙ pairs-count 4 head)
