@@ -1,8 +1,8 @@
 #!/usr/bin/env python3
-"""Writes the table of crates/numbers, its stdin and its stdout.
+"""Writes the tables of crates/numbers and crates/lists, the stdin and the stdout of each.
 
-make.py            write both files
-make.py --check    compare both with what would be written, and the answers recorded from the Rust with the decoders here
+make.py            write the files
+make.py --check    compare them with what would be written, and the answers recorded from the Rust with those here
 """
 import random
 import re
@@ -12,10 +12,15 @@ from pathlib import Path
 sys.dont_write_bytecode = True
 
 import decoders
+import list_cases
+import lists
 
 HERE = Path(__file__).resolve().parent
-CRATE = HERE.parent / "crates" / "numbers"
+TOP = HERE.parent
+CRATES = TOP / "crates"
+SHAPES = TOP / "oracle" / "shapes.txt"
 RECORDED = HERE / "oracle-answers.txt"
+RECORDED_LISTS = HERE / "oracle-lists.txt"
 
 # The program reads no more.
 ROOM = 65536
@@ -263,56 +268,85 @@ def whole(rng, reader, head, size):
     return case(reader, 0, len(lead), lead + bytes([head]) + rng.randbytes(size - 1 + head % 2))
 
 
-def files():
-    lines = table(random.Random(1))
+def numbers_table():
     for line, said in DOCUMENT:
         if answered(line) != f"{line} = {said}":
             sys.exit(f"make.py: document 01 says {said}, the decoders say {answered(line)}")
+    return table(random.Random(1))
+
+
+def lists_table():
+    lines = list_cases.table()
+    labels = [line.split(" ")[1] for line in lines if lists.answered(line)[0] not in "#?" and line != "shapes"]
+    if len(labels) != len(set(labels)):
+        sys.exit("make.py: two cases of crates/lists have one label")
+    for line in lines:
+        label, _, answer = lists.answered(line).partition(" = ")
+        if list_cases.DOCUMENT.get(label, "") not in answer:
+            sys.exit(f"make.py: document 01 says {list_cases.DOCUMENT[label]}, lists.py says {answer}")
+    if lists.shapes() != SHAPES.read_text("ascii").removesuffix("\n"):
+        sys.exit("make.py: the shapes of lists.py are not those of oracle/shapes.txt")
+    return lines
+
+
+def files(crate, lines, answered):
+    """The two files of a program, a byte a character: its cases and its answers."""
     made = {
-        CRATE / "stdin": "".join(line + "\n" for line in lines),
-        CRATE / "stdout": "".join(answered(line) + "\n" for line in lines),
+        CRATES / crate / "stdin": "".join(line + "\n" for line in lines),
+        CRATES / crate / "stdout": "".join(answered(line) + "\n" for line in lines),
     }
-    if len(made[CRATE / "stdin"]) > ROOM:
-        sys.exit("make.py: the program has no room for the table")
-    return made, lines
+    if len(made[CRATES / crate / "stdin"]) > ROOM:
+        sys.exit(f"make.py: the program {crate} has no room for its table")
+    return made
+
+
+def answers_of(path):
+    """The Rust's recorded answers: what was asked, the answer, and whether it is known to differ here."""
+    differs = False
+    for line in path.read_text("utf-8").splitlines():
+        if line.startswith("#"):
+            differs = line.startswith("# Different")
+        else:
+            yield *line.split(" = "), differs
 
 
 def recorded():
-    """The Rust's recorded answers: encoding, group, bytes, what became of the frame, and whether that is known to differ here."""
-    rows, differs = [], False
-    for line in RECORDED.read_text("ascii").splitlines():
-        if line.startswith("#"):
-            differs = line.startswith("# Different")
-            continue
-        asked, rust = line.split(" = ")
+    """What the Rust made of frames: encoding, group, bytes, what became of the frame, and whether that is known to differ here."""
+    for asked, rust, differs in answers_of(RECORDED):
         encoding, n, data = asked.split(" ")
-        rows.append((encoding, n, b"" if data == "-" else bytes.fromhex(data), rust, differs))
-    return rows
+        yield encoding, n, b"" if data == "-" else bytes.fromhex(data), rust, differs
 
 
 def replay():
-    """Holds the decoders to the Rust's recorded answers: equal in the domain of equality, different where it was recorded so."""
+    """Holds what is here to the Rust's recorded answers: equal in the domain of equality, different where it was recorded so."""
+    rows = [(f"{e} {n} {data.hex()}", rust, decoders.trial(int(e), int(n), data), differs) for e, n, data, rust, differs in recorded()]
+    verdicts = {label: lists.rust_verdict(log, numbers) for label, log, numbers in list_cases.logs()}
+    answers = list(answers_of(RECORDED_LISTS))
+    if {label for label, _, _ in answers} != set(verdicts):
+        sys.exit(f"make.py: {RECORDED_LISTS.name} is not about the table's logs; oracle_lists.py records it anew")
+    rows += [(label, rust, verdicts[label], differs) for label, rust, differs in answers]
     counts = [0, 0]
-    for encoding, n, data, rust, differs in recorded():
-        here = decoders.trial(int(encoding), int(n), data)
+    for asked, rust, here, differs in rows:
         if (here != rust) != differs:
-            sys.exit(f"make.py: for {encoding} {n} {data.hex()} the Rust says {rust}, the decoders say {here}")
+            sys.exit(f"make.py: for {asked} the Rust says {rust}, here it is {here}")
         counts[differs] += 1
     return counts
 
 
 def main():
-    made, lines = files()
+    number_lines, list_lines = numbers_table(), lists_table()
+    made = files("numbers", number_lines, answered) | files("lists", list_lines, lists.answered)
+    counted = f"{count(number_lines)} vectors of numbers and {count(list_lines)} of lists"
     if sys.argv[1:] == ["--check"]:
         for path, text in made.items():
-            if not path.exists() or path.read_bytes() != text.encode("ascii"):
-                sys.exit(f"make.py: {path.name} of crates/numbers is not what make.py writes")
+            if not path.exists() or path.read_bytes() != text.encode("latin-1"):
+                sys.exit(f"make.py: {path.relative_to(TOP)} is not what make.py writes")
         equal, different = replay()
-        print(f"make.py: {count(lines)} vectors as stored; of the Rust's answers {equal} equal, {different} different as recorded")
+        print(f"make.py: {counted} as stored; of the Rust's answers {equal} equal, {different} different as recorded")
     elif not sys.argv[1:]:
         for path, text in made.items():
-            path.write_bytes(text.encode("ascii"))
-        print(f"make.py: {count(lines)} vectors written")
+            path.write_bytes(text.encode("latin-1"))
+        print(f"make.py: {counted} written")
     else:
         sys.exit(__doc__)
 

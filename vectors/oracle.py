@@ -12,6 +12,7 @@ import argparse
 import collections
 import itertools
 import random
+import shlex
 import subprocess
 import sys
 
@@ -70,15 +71,19 @@ def section(encoding, n, data):
     return text.encode("ascii") + b"I\x00\x00" + data
 
 
+def walked(binary, logs, *options):
+    """What the Rust says of each log."""
+    framed = b"".join(len(log).to_bytes(4, "little") + log for log in logs)
+    run = subprocess.run([binary, "--walk", "--batch", *options], input=framed, stdout=subprocess.PIPE, check=True)
+    answers = run.stdout.decode("utf-8").split("--\n")
+    if answers.pop() or len(answers) != len(logs):
+        sys.exit("oracle: the Rust did not answer every case")
+    return answers
+
+
 def asked(binary, cases):
     """What the Rust makes of the first trial of each case."""
-    sections = [section(*case) for case in cases]
-    framed = b"".join(len(s).to_bytes(4, "little") + s for s in sections)
-    run = subprocess.run([binary, "--walk", "--batch"], input=framed, stdout=subprocess.PIPE, check=True)
-    answers = run.stdout.decode("ascii").split("--\n")
-    if answers.pop() or len(answers) != len(cases):
-        sys.exit("oracle.py: the oracle did not answer every case")
-    return [first_trial(a) for a in answers]
+    return [first_trial(answer) for answer in walked(binary, [section(*case) for case in cases])]
 
 
 def first_trial(answer):
@@ -93,20 +98,25 @@ def first_trial(answer):
     return "rejected"
 
 
-def read_by(program, cases):
-    """What the program numbers answers for each case, asked for as many at a time as it has room for."""
+def printed(program, lines):
+    """What a program answers to each case of its table, asked for as many at a time as it has room for."""
     answers, batch, size = [], [], 0
-    for encoding, n, data in [*cases, (None, None, None)]:
-        line = "" if encoding is None else f"{encoding} {n} 0 {data.hex() or '-'}\n"
-        if batch and (encoding is None or size + len(line) > ROOM):
-            run = subprocess.run([program], input="".join(batch).encode("ascii"), stdout=subprocess.PIPE, check=True)
+    for line in [*lines, None]:
+        if batch and (line is None or size + len(line) >= ROOM):
+            run = subprocess.run(shlex.split(program), input="".join(batch).encode("ascii"), stdout=subprocess.PIPE, check=True)
             answers += [out.partition(" = ")[2] for out in run.stdout.decode("ascii").splitlines()]
             batch, size = [], 0
-        batch.append(line)
-        size += len(line)
-    if len(answers) != len(cases):
-        sys.exit("oracle.py: the program did not answer every case")
+        if line is not None:
+            batch.append(line + "\n")
+            size += len(line) + 1
+    if len(answers) != len(lines):
+        sys.exit("oracle: the program did not answer every case")
     return answers
+
+
+def read_by(program, cases):
+    """What the program numbers reads in each case."""
+    return printed(program, [f"{encoding} {n} 0 {data.hex() or '-'}" for encoding, n, data in cases])
 
 
 def any_seven(rng):

@@ -1,1 +1,1 @@
-// No code: starred cases of document 01, as one list.
+// No code: the starred cases of document 01 as one list, and logs whose lists are judged.

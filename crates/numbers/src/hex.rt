@@ -4,39 +4,12 @@ ghost use Prim.Native.Nat.{_+_, _≤_};
 ghost use mathlib.Core.Path.{_≡_};
 ghost use lib.ListN.{length};
 ghost use Rattle.io.specs.Counts.{Counts};
+use words::Byte;
 
 // How many bytes there are, and whether the text is a section that fits. A text that is none has no bytes.
 pub struct Section {
     pub length: usize,
     pub is_hex: bool,
-}
-
-enum Byte {
-    Is(u8),
-    Wrong,
-}
-
-// 16 stands for what is no digit.
-fn digit(b: u8) -> u8
-    ensures { λ r. ⌜ r ≤ 16 ⌝ }
-{
-    match b {
-        b'0'..=b'9' => b - b'0',
-        b'a'..=b'f' => b - b'a' + 10,
-        _ => 16,
-    }
-}
-
-fn pair(first: u8, second: u8) -> Byte {
-    let high = digit(first);
-    let low = digit(second);
-    if high == 16 {
-        return Byte::Wrong;
-    }
-    if low == 16 {
-        return Byte::Wrong;
-    }
-    Byte::Is(16 * high + low)
 }
 
 // Puts the bytes of n pairs into out, up to the first pair that is wrong, and answers whether there is none.
@@ -46,7 +19,7 @@ fn pairs(text: &[u8], n: usize, out: &mut [u8]) -> bool
 {
     let mut i = 0;
     while i < n {
-        let next = pair(text[i + i], text[i + i + 1]);
+        let next = words::hex(text[i + i], text[i + i + 1]);
         let Byte::Is(b) = next else {
             return false;
         };

@@ -13,7 +13,6 @@ use words::Number;
 
 mod hex;
 mod show;
-mod words;
 
 enum Reader {
     VariableSigned,

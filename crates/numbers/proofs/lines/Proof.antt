@@ -1,7 +1,9 @@
 -- `numbers::lines` is safe and ends: a line takes its line feed with it, so each turn has less left. Assumes nothing.
 use Prim.Native.Nat.{_≤_, _-_}
+use native.Mathlib.Omega.{arith}
 use borrow.Author.Needs.{needs}
 use lib.ListN.{length}
+use Rattle.words.proofs.Parting.{until-within, until-taken}
 use Rattle.numbers.proofs.lines.Statement.{statement}
 use Rattle.numbers.proofs.lines.Tie as tie
 
@@ -22,12 +24,12 @@ lines-spec =
     (λ c. search needs)
     (λ c. search needs)
     (λ c κs. search needs)
-    (λ c. search needs)
+    (λ c. search until-taken)
     (λ c κs. search needs)
+    (λ c. omega (arith, until-within _ _ (c .before .before .until .ensures)))
     (λ c. search needs)
     (λ c. search needs)
     (λ c. search needs)
     (λ c. search needs)
-    (λ c. search needs)
-    (λ c. search needs)
+    (λ c. omega (arith, until-within _ _ (c .before .before .before .until .ensures)))
     (λ c. search needs))

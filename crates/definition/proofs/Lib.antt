@@ -1,0 +1,11 @@
+pub mod Chain
+pub mod Judged
+pub mod Laid
+pub mod Lengths
+pub mod Motor
+pub mod One
+pub mod Papers
+pub mod Readings
+pub mod Rounds
+pub mod Sound
+pub mod Unknown

@@ -1,0 +1,4 @@
+pub mod Lines
+pub mod One
+pub mod Walking
+pub mod Within

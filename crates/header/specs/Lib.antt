@@ -1,0 +1,3 @@
+pub mod Lines
+pub mod Header
+pub mod Owes

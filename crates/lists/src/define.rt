@@ -1,0 +1,120 @@
+// A case `define LABEL T B M N D LOG`: what a log's header says, and what its lists come to with three header numbers and an interval.
+use crate::escapes;
+use crate::escapes::LONGEST;
+use crate::show;
+use definition::Defined;
+use definition::Verdict;
+use items::Lists;
+use plan::FrameInterval;
+use plan::HeaderNumber;
+use plan::Numbers;
+use words::Number;
+
+enum Word {
+    Is(HeaderNumber),
+    Wrong,
+}
+
+fn header_number(word: &[u8]) -> Word {
+    if check::same(word, b"-") {
+        return Word::Is(HeaderNumber::Absent);
+    }
+    let number = words::decimal(word);
+    let Number::Is(n) = number else {
+        return Word::Wrong;
+    };
+    if 65535 < n {
+        return Word::Wrong;
+    }
+    Word::Is(HeaderNumber::Given(n as u16))
+}
+
+// The definition of lists with no header numbers, and an interval of 1/1.
+pub fn plainly(text: &[u8], lists: Lists) -> Defined {
+    let numbers = Numbers {
+        min_throttle: HeaderNumber::Absent,
+        vbat_reference: HeaderNumber::Absent,
+        min_motor: HeaderNumber::Absent,
+    };
+    let interval = FrameInterval {
+        numerator: 1,
+        denominator: 1,
+    };
+    definition::define(text, lists, numbers, interval)
+}
+
+fn answer(log: &[u8], numbers: Numbers, interval: FrameInterval) {
+    let header = header::read(log);
+    let lists = header.lists;
+    let defined = definition::define(log, lists, numbers, interval);
+    let verdict = defined.verdict;
+    show::text(b"section ");
+    show::number(header.section);
+    show::text(b" ");
+    match verdict {
+        Verdict::Pass => show::definition(defined.definition, log, lists),
+        Verdict::Refused(why) => show::refusal(why),
+    }
+}
+
+// Each of the next three answers whether the line is a case, and prints nothing where it is not.
+fn with_interval(label: &[u8], numbers: Numbers, interval: FrameInterval, log: &[u8]) -> bool {
+    let mut space = [0u8; LONGEST];
+    let text = escapes::unescape(log, &mut space);
+    if !text.is_right {
+        return false;
+    }
+    let n = text.length;
+    show::text(label);
+    show::text(b" = ");
+    answer(&space[..n], numbers, interval);
+    true
+}
+
+fn with_numbers(label: &[u8], numbers: Numbers, rest: &[u8]) -> bool {
+    let behind = words::behind(rest);
+    let first = words::decimal(words::first(rest));
+    let second = words::decimal(words::first(behind));
+    let Number::Is(n) = first else {
+        return false;
+    };
+    let Number::Is(d) = second else {
+        return false;
+    };
+    if 4294967295 < n {
+        return false;
+    }
+    if 4294967295 < d {
+        return false;
+    }
+    let interval = FrameInterval {
+        numerator: n as u32,
+        denominator: d as u32,
+    };
+    with_interval(label, numbers, interval, words::behind(behind))
+}
+
+pub fn case(rest: &[u8]) -> bool {
+    let label = words::first(rest);
+    let behind_label = words::behind(rest);
+    let behind_throttle = words::behind(behind_label);
+    let behind_battery = words::behind(behind_throttle);
+    let throttle = header_number(words::first(behind_label));
+    let battery = header_number(words::first(behind_throttle));
+    let motor = header_number(words::first(behind_battery));
+    let Word::Is(min_throttle) = throttle else {
+        return false;
+    };
+    let Word::Is(vbat_reference) = battery else {
+        return false;
+    };
+    let Word::Is(min_motor) = motor else {
+        return false;
+    };
+    let numbers = Numbers {
+        min_throttle,
+        vbat_reference,
+        min_motor,
+    };
+    with_numbers(label, numbers, words::behind(behind_battery))
+}

@@ -1,0 +1,5 @@
+pub mod Codes
+pub mod Needs
+pub mod One
+pub mod Rooms
+pub mod Sound

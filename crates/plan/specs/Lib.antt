@@ -1,0 +1,4 @@
+pub mod Known
+pub mod Plan
+pub mod Sound
+pub mod Owes

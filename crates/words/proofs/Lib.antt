@@ -1,0 +1,4 @@
+pub mod Digits
+pub mod Nibbles
+pub mod One
+pub mod Parting

@@ -1,0 +1,30 @@
+-- One input admits one answer: any two answers that a promise of this crate admits are equal.
+use Prim.Native.Nat.{ℕ}
+use mathlib.Core.Bool.{Bool}
+use mathlib.Core.List.{List}
+use mathlib.Core.Path.{_≡_, sym, _∙_}
+use Rattle.words.specs.declared.Byte.{Byte}
+use Rattle.words.specs.declared.Number.{Number}
+use Rattle.words.specs.Owes.{UntilOwes, FirstOwes, BehindOwes, IsHeadingOwes, DecimalOwes, HexOwes}
+
+-- a promise is one equation to a definition
+one-answer : {A : Type 0} {x r t : A} → r ≡ x → t ≡ x → r ≡ t
+one-answer p q = p ∙ sym q
+
+pub until-one : (s : List ℕ) (b : ℕ) {r t : ℕ} → UntilOwes s b r → UntilOwes s b t → r ≡ t
+until-one s b = one-answer
+
+pub first-one : (s : List ℕ) {r t : List ℕ} → FirstOwes s r → FirstOwes s t → r ≡ t
+first-one s = one-answer
+
+pub behind-one : (s : List ℕ) {r t : List ℕ} → BehindOwes s r → BehindOwes s t → r ≡ t
+behind-one s = one-answer
+
+pub is-heading-one : (s : List ℕ) {r t : Bool} → IsHeadingOwes s r → IsHeadingOwes s t → r ≡ t
+is-heading-one s = one-answer
+
+pub decimal-one : (s : List ℕ) {r t : Number} → DecimalOwes s r → DecimalOwes s t → r ≡ t
+decimal-one s = one-answer
+
+pub hex-one : (high low : ℕ) {r t : Byte} → HexOwes high low r → HexOwes high low t → r ≡ t
+hex-one high low = one-answer

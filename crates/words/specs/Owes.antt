@@ -1,0 +1,26 @@
+-- What each public function of this crate owes.
+use Prim.Native.Nat.{ℕ}
+use mathlib.Core.Bool.{Bool}
+use mathlib.Core.List.{List}
+use mathlib.Core.Path.{_≡_}
+use Rattle.words.specs.declared.Byte.{Byte}
+use Rattle.words.specs.declared.Number.{Number}
+use Rattle.words.specs.Words.{before, firstWord, otherWords, heading, decimalOf, hexOf}
+
+abbrev pub UntilOwes : List ℕ → ℕ → ℕ → Type 0
+UntilOwes s b r = r ≡ before b s
+
+abbrev pub FirstOwes : List ℕ → List ℕ → Type 0
+FirstOwes s r = r ≡ firstWord s
+
+abbrev pub BehindOwes : List ℕ → List ℕ → Type 0
+BehindOwes s r = r ≡ otherWords s
+
+abbrev pub IsHeadingOwes : List ℕ → Bool → Type 0
+IsHeadingOwes s r = r ≡ heading s
+
+abbrev pub DecimalOwes : List ℕ → Number → Type 0
+DecimalOwes s r = r ≡ decimalOf s
+
+abbrev pub HexOwes : (high low : ℕ) → Byte → Type 0
+HexOwes high low r = r ≡ hexOf high low
