@@ -227,14 +227,19 @@ def record(path, inside, outside):
         f.writelines(line + "\n" for line in lines)
 
 
-def main():
-    parser = argparse.ArgumentParser(description=__doc__, formatter_class=argparse.RawDescriptionHelpFormatter)
+def parsed(text, program, cases):
+    """The options of a run against the Rust; the program of crates/ that is held to it goes by its own name."""
+    parser = argparse.ArgumentParser(description=text, formatter_class=argparse.RawDescriptionHelpFormatter)
     parser.add_argument("binary")
-    parser.add_argument("--numbers", metavar="PROGRAM")
-    parser.add_argument("--cases", type=int, default=40000)
+    parser.add_argument("--" + program, dest="program", metavar="PROGRAM")
+    parser.add_argument("--cases", type=int, default=cases)
     parser.add_argument("--seed", type=int, default=1)
     parser.add_argument("--record")
-    options = parser.parse_args()
+    return parser.parse_args()
+
+
+def main():
+    options = parsed(__doc__, "numbers", 40000)
     rng = random.Random(options.seed)
 
     domain = collections.defaultdict(Tally)
@@ -242,7 +247,7 @@ def main():
     outside = collections.defaultdict(Tally)
     for encoding, n in GROUPS:
         todo = cases(rng, encoding, n, options.cases // (8 if encoding == 6 else 1))
-        read = read_by(options.numbers, todo) if options.numbers else [decoders.answer(e, k, 0, d) for e, k, d in todo]
+        read = read_by(options.program, todo) if options.program else [decoders.answer(e, k, 0, d) for e, k, d in todo]
         for case, rust, answer in zip(todo, asked(options.binary, todo), read):
             if answer != decoders.answer(encoding, n, 0, case[2]):
                 sys.exit(f"oracle.py: for {shown(case, answer)} the decoders say {decoders.answer(encoding, n, 0, case[2])}")

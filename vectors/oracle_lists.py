@@ -7,10 +7,9 @@ BINARY is the oracle, the Rust's walk over a log. Each case is a log with a sect
 the first are -1 and those of the second 0, in the bytes that the definition's encodings take: the frames then show each field's predictors
 and sign, and with another encoding or another number of fields they are lost. Where the Rust refuses a log it gives a reason, from which the
 refusal can be told, but for 6 and 8, or 7 and 8, of one kind of frame.
-With PROGRAM, the built program lists, it is the proved definition that is compared with the Rust, and with lists.py too. N cases in the domain
+With PROGRAM, the command that runs the program lists, it is the proved definition that is compared with the Rust, and with lists.py too. N cases in the domain
 of equality, fewer outside. FILE gets what the Rust says of the logs of the program's table, for make.py --check.
 """
-import argparse
 import collections
 import itertools
 import random
@@ -22,7 +21,7 @@ sys.dont_write_bytecode = True
 import list_cases
 import lists
 from list_cases import field, header, item, longer, main, shorter, slow, without
-from oracle import printed, walked
+from oracle import parsed, printed, walked
 
 DOMAIN = "main lists, in the domain of equality where they are accepted"
 NO_LIMIT = "over 64 rounds, and no limit here"
@@ -291,17 +290,11 @@ def recorded(binary):
 
 
 def run():
-    parser = argparse.ArgumentParser(description=__doc__, formatter_class=argparse.RawDescriptionHelpFormatter)
-    parser.add_argument("binary")
-    parser.add_argument("--lists", metavar="PROGRAM")
-    parser.add_argument("--cases", type=int, default=200000)
-    parser.add_argument("--seed", type=int, default=1)
-    parser.add_argument("--record")
-    options = parser.parse_args()
+    options = parsed(__doc__, "lists", 200000)
 
     for name, make, flags in GROUPS:
         cases = [(log.encode("latin-1"), numbers) for log, numbers in make(random.Random(options.seed), options.cases)]
-        held = f", {hold(options.lists, cases)} by the program" if options.lists else ""
+        held = f", {hold(options.program, cases)} by the program" if options.program else ""
         most = lists.MAIN_MOST
         if name == NO_LIMIT:
             lists.MAIN_MOST = 10**6
