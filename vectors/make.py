@@ -1,5 +1,5 @@
 #!/usr/bin/env python3
-"""Writes the tables of crates/numbers and crates/lists, the stdin and the stdout of each.
+"""Writes the tables of crates/numbers, crates/lists and crates/frames, the stdin and the stdout of each.
 
 make.py            write the files
 make.py --check    compare them with what would be written, and the answers recorded from the Rust with those here
@@ -12,8 +12,12 @@ from pathlib import Path
 sys.dont_write_bytecode = True
 
 import decoders
+import frame_cases
+import frames
 import list_cases
 import lists
+import sections
+from encoders import seven
 
 HERE = Path(__file__).resolve().parent
 TOP = HERE.parent
@@ -82,16 +86,6 @@ def answered(line):
     if reader == "search":
         return f"{line} = {decoders.search_answer(place, data)}"
     return f"{line} = {decoders.answer(int(reader), group, place, data)}"
-
-
-def seven(n, length=0):
-    """A number in groups of seven bits, padded to a length."""
-    groups = [n % 128]
-    while n >= 128:
-        n //= 128
-        groups.append(n % 128)
-    groups += [0] * (length - len(groups))
-    return bytes([g + 128 for g in groups[:-1]] + groups[-1:])
 
 
 def pieces(reader, group, data):
@@ -268,24 +262,41 @@ def whole(rng, reader, head, size):
     return case(reader, 0, len(lead), lead + bytes([head]) + rng.randbytes(size - 1 + head % 2))
 
 
+def hold_to_document(pairs, answered):
+    """Holds cases to what document 01 says of them."""
+    for line, said in pairs:
+        if answered(line).partition(" = ")[2] != said:
+            sys.exit(f"make.py: document 01 says {said}, here it is {answered(line)}")
+
+
+def hold_labels(crate, lines, answered, others):
+    """No two cases have one label; others tells the lines that have none."""
+    labels = [line.split(" ")[1] for line in lines if answered(line)[0] not in "#?" and not line.startswith(others)]
+    if len(labels) != len(set(labels)):
+        sys.exit(f"make.py: two cases of crates/{crate} have one label")
+
+
 def numbers_table():
-    for line, said in DOCUMENT:
-        if answered(line) != f"{line} = {said}":
-            sys.exit(f"make.py: document 01 says {said}, the decoders say {answered(line)}")
+    hold_to_document(DOCUMENT, answered)
     return table(random.Random(1))
 
 
 def lists_table():
     lines = list_cases.table()
-    labels = [line.split(" ")[1] for line in lines if lists.answered(line)[0] not in "#?" and line != "shapes"]
-    if len(labels) != len(set(labels)):
-        sys.exit("make.py: two cases of crates/lists have one label")
+    hold_labels("lists", lines, lists.answered, "shapes")
     for line in lines:
         label, _, answer = lists.answered(line).partition(" = ")
         if list_cases.DOCUMENT.get(label, "") not in answer:
             sys.exit(f"make.py: document 01 says {list_cases.DOCUMENT[label]}, lists.py says {answer}")
     if lists.shapes() != SHAPES.read_text("ascii").removesuffix("\n"):
         sys.exit("make.py: the shapes of lists.py are not those of oracle/shapes.txt")
+    return lines
+
+
+def frames_table():
+    lines = frame_cases.table()
+    hold_labels("frames", lines, frames.answered, "predict")
+    hold_to_document(frame_cases.DOCUMENT, frames.answered)
     return lines
 
 
@@ -325,6 +336,7 @@ def replay():
     if {label for label, _, _ in answers} != set(verdicts):
         sys.exit(f"make.py: {RECORDED_LISTS.name} is not about the table's logs; oracle_lists.py records it anew")
     rows += [(label, rust, verdicts[label], differs) for label, rust, differs in answers]
+    rows += [(asked, rust, sections.answer(*sections.parsed(asked)), differs) for asked, rust, differs in answers_of(frame_cases.RECORDED)]
     counts = [0, 0]
     for asked, rust, here, differs in rows:
         if (here != rust) != differs:
@@ -334,9 +346,9 @@ def replay():
 
 
 def main():
-    number_lines, list_lines = numbers_table(), lists_table()
-    made = files("numbers", number_lines, answered) | files("lists", list_lines, lists.answered)
-    counted = f"{count(number_lines)} vectors of numbers and {count(list_lines)} of lists"
+    number_lines, list_lines, frame_lines = numbers_table(), lists_table(), frames_table()
+    made = files("numbers", number_lines, answered) | files("lists", list_lines, lists.answered) | files("frames", frame_lines, frames.answered)
+    counted = f"{count(number_lines)} vectors of numbers, {count(list_lines)} of lists and {count(frame_lines)} of frames"
     if sys.argv[1:] == ["--check"]:
         for path, text in made.items():
             if not path.exists() or path.read_bytes() != text.encode("latin-1"):

@@ -3,6 +3,7 @@ use Prim.Native.Nat.{ℕ, zero, suc, _+_, _-_, _*_, _≤_, _<_}
 use mathlib.Core.List.{List}
 use mathlib.Core.Path.{_≡_, refl, sym, ap, _∙_}
 use native.Mathlib.Numerals.{add-one}
+use native.Mathlib.Omega.{arith}
 use lib.ListN.{length, getD, drop, drop-of-length-le}
 use lib.Seq.{drop-cons}
 use borrow.Author.Tests.{le-ltb, lt-ltb, le-leb, lt-leb}
@@ -16,6 +17,20 @@ use Rattle.decode.specs.Variable.{sevens, encoding1}
 -- a byte with bit 7 set, of weight 1, before the rest, of weight 128
 abbrev before : ℕ → ℕ → ℕ
 before b v = 128 * v + (b - 128)
+
+-- The code keeps a running sum, in which the last byte still has its bit 7: four bytes, and a fifth behind them.
+module _ (a b c d : ℕ) (more : (128 ≤ a) × (128 ≤ b) × (128 ≤ c)) where
+  four : 2097152 * d + (16384 * c + (128 * b + (a - 128) - 16384) - 2097152) ≡ before a (before b (before c d))
+  four = omega arith
+
+  five : (e : ℕ) → 128 ≤ d → 268435456 * e + (before a (before b (before c d)) - 268435456) ≡ before a (before b (before c (before d e)))
+  five e h = omega arith
+
+pub running : (a b c d e : ℕ) {v w x y z : ℕ} → (v ≡ a) × (w ≡ b) × (x ≡ c) × (y ≡ d) × (z ≡ e) → (128 ≤ a) × (128 ≤ b) × (128 ≤ c) × (128 ≤ d)
+    → 268435456 * z + (2097152 * y + (16384 * x + (128 * w + (v - 128) - 16384) - 2097152) - 268435456) ≡ before a (before b (before c (before d e)))
+running a b c d e same more =
+    rw (same .0, same .1, same .2, same .3, same .4)
+    (ap (λ m. 268435456 * e + (m - 268435456)) (four a b c d (omega arith)) ∙ five a b c d (omega arith) e (omega arith))
 
 -- ## The byte at a place, or none
 

@@ -1,5 +1,5 @@
 // Encodings 1 and 0: groups of seven bits, unsigned and signed.
-// Five bytes at the most, so five flat steps: no loop, and no shift that could lose a bit.
+// Five bytes at the most, so five flat steps: no loop, and no shift that could lose a bit. Bit 7 of a byte is taken off with the next.
 ghost use mathlib.Core.Path.{_≡_};
 ghost use Rattle.bits.specs.Pattern.{pattern};
 ghost use Rattle.decode.specs.Variable.{zigzag};
@@ -25,38 +25,35 @@ pub fn variable(s: &[u8], from: Cursor) -> Read
         return Read::Cut;
     }
     let b = wide(s[p]);
+    let ab = 128 * b + (a - 128);
     let q = p + 1;
     if b < 128 {
-        return Read::Num(128 * b + (a - 128), Cursor { at: q });
+        return Read::Num(ab, Cursor { at: q });
     }
     if s.len() <= q {
         return Read::Cut;
     }
     let c = wide(s[q]);
+    let abc = 16384 * c + (ab - 16384);
     let r = q + 1;
     if c < 128 {
-        return Read::Num(128 * (128 * c + (b - 128)) + (a - 128), Cursor { at: r });
+        return Read::Num(abc, Cursor { at: r });
     }
     if s.len() <= r {
         return Read::Cut;
     }
     let d = wide(s[r]);
+    let abcd = 2097152 * d + (abc - 2097152);
     let t = r + 1;
     if d < 128 {
-        return Read::Num(
-            128 * (128 * (128 * d + (c - 128)) + (b - 128)) + (a - 128),
-            Cursor { at: t },
-        );
+        return Read::Num(abcd, Cursor { at: t });
     }
     if s.len() <= t {
         return Read::Cut;
     }
     let e = wide(s[t]);
     if e <= 15 {
-        return Read::Num(
-            128 * (128 * (128 * (128 * e + (d - 128)) + (c - 128)) + (b - 128)) + (a - 128),
-            Cursor { at: t + 1 },
-        );
+        return Read::Num(268435456 * e + (abcd - 268435456), Cursor { at: t + 1 });
     }
     Read::Corrupt
 }

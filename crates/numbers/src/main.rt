@@ -11,7 +11,6 @@ use tagged::tagged_16::tagged_16;
 use tagged::tagged_32::tagged_32;
 use words::Number;
 
-mod hex;
 mod show;
 
 enum Reader {
@@ -81,7 +80,7 @@ fn answer(which: Reader, group: usize, place: usize, s: &[u8]) {
 // Each of the next three answers whether the line is a case, and prints nothing where it is not.
 fn with_section(line: &[u8], which: Reader, group: usize, place: usize, digits: &[u8]) -> bool {
     let mut space = [0u8; 256];
-    let section = hex::bytes(digits, &mut space);
+    let section = words::section::bytes(digits, &mut space);
     if !section.is_hex {
         return false;
     }

@@ -32,6 +32,7 @@ pub record MainRooms (m : Main) : Type 0 where
   pub inter-predictors : length (m .«inter_predictors») ≡ 62
   pub intra-encodings : length (m .«intra_encodings») ≡ 62
   pub inter-encodings : length (m .«inter_encodings») ≡ 62
+  pub signs : length (m .signs) ≡ 62
 
 -- `c .good` has such a part for each parameter
 pub main-rooms : (m : Main) {vs : List Val} → Is (declared.row main.the-type) m vs → MainRooms m
@@ -41,6 +42,7 @@ main-rooms m g =
       inter-predictors = rooms 62 (m .«inter_predictors») (g .1 .1 .1 .1 .1 .0);
       intra-encodings = rooms 62 (m .«intra_encodings») (g .1 .1 .1 .1 .1 .1 .0);
       inter-encodings = rooms 62 (m .«inter_encodings») (g .1 .1 .1 .1 .1 .1 .1 .0);
+      signs = rooms 62 (m .signs) (g .1 .1 .1 .1 .1 .1 .1 .1 .0);
     }
 
 pub record SlowRooms (s : Slow) : Type 0 where
@@ -61,7 +63,7 @@ take-rooms zero l = rw (zero-min (length l))
 take-rooms (suc f) [] = take-nil (min (suc f) 0)
 take-rooms (suc f) (x ∷ l) = rw (suc-min-suc f (length l)) (ap (λ t. x ∷ t) (take-rooms f l))
 
-front-all : (k f n : ℕ) (l : List ℕ) → k ≡ min f n → length l ≡ n → take k l ≡ take f l
+pub front-all : (k f n : ℕ) (l : List ℕ) → k ≡ min f n → length l ≡ n → take k l ≡ take f l
 front-all k f n l e rooms = ap (λ x. take x l) (e ∙ ap (min f) (sym rooms)) ∙ take-rooms f l
 
 -- a field that lacks something stands in one of the rooms

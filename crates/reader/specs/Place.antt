@@ -33,7 +33,7 @@ readAt c (got v u) = read.Num v (on c u)
 readAt c cut = read.Cut
 readAt c corrupt = read.Corrupt
 
--- n zeros, with a list laid over them from the first on; no group has more than eight values, so none is lost
+-- n zeros, with a list laid over them from the first on; no list laid here is longer, so nothing is lost
 abbrev pub padded : ℕ → List ℕ → List ℕ
 padded n vs = sets (replicate n 0) 0 vs
 

@@ -2,10 +2,11 @@
 use Prim.Native.Nat.{ℕ}
 use mathlib.Core.Bool.{Bool}
 use mathlib.Core.List.{List}
-use mathlib.Core.Path.{_≡_, sym, _∙_}
+use mathlib.Core.Path.{_≡_, sym, ap, _∙_}
 use Rattle.words.specs.declared.Byte.{Byte}
 use Rattle.words.specs.declared.Number.{Number}
-use Rattle.words.specs.Owes.{UntilOwes, FirstOwes, BehindOwes, IsHeadingOwes, DecimalOwes, HexOwes}
+use Rattle.words.specs.declared.section.Section.{Section}
+use Rattle.words.specs.Owes.{UntilOwes, FirstOwes, BehindOwes, IsHeadingOwes, DecimalOwes, HexOwes, BytesOwes}
 
 -- a promise is one equation to a definition
 one-answer : {A : Type 0} {x r t : A} → r ≡ x → t ≡ x → r ≡ t
@@ -28,3 +29,7 @@ decimal-one s = one-answer
 
 pub hex-one : (high low : ℕ) {r t : Byte} → HexOwes high low r → HexOwes high low t → r ≡ t
 hex-one high low = one-answer
+
+-- the section, and all that the lent buffer holds
+pub bytes-one : (text out : List ℕ) {r t : Section} {after other : List ℕ} → BytesOwes text out r after → BytesOwes text out t other → (r ≡ t) × (after ≡ other)
+bytes-one text out p q = (ap (λ x. x .0) (one-answer p q), ap (λ x. x .1) (one-answer p q))

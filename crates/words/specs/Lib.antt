@@ -1,2 +1,3 @@
 pub mod Owes
+pub mod Sections
 pub mod Words

@@ -5,6 +5,8 @@ use mathlib.Core.List.{List}
 use mathlib.Core.Path.{_≡_}
 use Rattle.words.specs.declared.Byte.{Byte}
 use Rattle.words.specs.declared.Number.{Number}
+use Rattle.words.specs.declared.section.Section.{Section}
+use Rattle.words.specs.Sections.{sectionOf}
 use Rattle.words.specs.Words.{before, firstWord, otherWords, heading, decimalOf, hexOf}
 
 abbrev pub UntilOwes : List ℕ → ℕ → ℕ → Type 0
@@ -24,3 +26,6 @@ DecimalOwes s r = r ≡ decimalOf s
 
 abbrev pub HexOwes : (high low : ℕ) → Byte → Type 0
 HexOwes high low r = r ≡ hexOf high low
+
+abbrev pub BytesOwes : (text out : List ℕ) → Section → (after : List ℕ) → Type 0
+BytesOwes text out r after = (r, after) ≡ sectionOf text out

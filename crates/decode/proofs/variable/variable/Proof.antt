@@ -1,6 +1,6 @@
 -- `decode::variable::variable` meets its contract: at each `return`, the bytes that were passed and the one at the place say what is read. Assumes nothing.
 use native.Mathlib.Omega.{arith}
-use Rattle.decode.proofs.Sevens.{start, step, ended, number, fifth, too-high}
+use Rattle.decode.proofs.Sevens.{running, start, step, ended, number, fifth, too-high}
 use borrow.Author.Needs.{needs}
 use Rattle.decode.proofs.variable.variable.Statement.{statement}
 use Rattle.decode.proofs.variable.variable.Tie as tie
@@ -33,7 +33,7 @@ returns-9 : tie.Need-returns-9
 returns-9 c = ended (step (step (step (step (start _ _) (omega arith)) (omega arith)) (omega arith)) (omega arith)) (omega arith)
 
 returns-10 : tie.Need-returns-10
-returns-10 c = fifth (step (step (step (step (start _ _) (omega arith)) (omega arith)) (omega arith)) (omega arith)) (omega arith) (cc)
+returns-10 c = fifth (step (step (step (step (start _ _) (omega arith)) (omega arith)) (omega arith)) (omega arith)) (omega arith) (running _ _ _ _ _ (omega arith) (omega arith))
 
 returns-11 : tie.Need-returns-11
 returns-11 c = too-high (step (step (step (step (start _ _) (omega arith)) (omega arith)) (omega arith)) (omega arith)) (omega arith)
@@ -61,7 +61,6 @@ variable-spec =
     (λ c. search needs)
     (λ c. search needs)
     (λ c. search needs)
-    (λ c. search needs)
     returns-6
     returns-7
     (λ c. search needs)
@@ -70,18 +69,10 @@ variable-spec =
     (λ c. search needs)
     (λ c. search needs)
     (λ c. search needs)
-    (λ c. search needs)
-    (λ c. search needs)
-    (λ c. search needs)
     returns-8
     returns-9
     (λ c. search needs)
     (λ c κs. search needs)
-    (λ c. search needs)
-    (λ c. search needs)
-    (λ c. search needs)
-    (λ c. search needs)
-    (λ c. search needs)
     (λ c. search needs)
     (λ c. search needs)
     (λ c. search needs)

@@ -1,0 +1,9 @@
+pub mod Bodies
+pub mod Ends
+pub mod Histories
+pub mod Loop
+pub mod Moved
+pub mod One
+pub mod Own
+pub mod Rooms
+pub mod Whole

@@ -1,0 +1,22 @@
+-- One input admits one answer: any two answers that a promise of this crate admits are equal.
+use Prim.Native.Nat.{ℕ}
+use mathlib.Core.List.{List}
+use mathlib.Core.Option.{none}
+use mathlib.Core.Path.{_≡_}
+use Rattle.plan.specs.declared.Definition.{Definition}
+use Rattle.raws.specs.declared.Raw.{Raw}
+use Rattle.reader.proofs.One.{one-answer}
+use Rattle.frame.specs.declared.MainFrame.{MainFrame}
+use Rattle.frame.specs.Owes.{AbsentOwes, IntraOwes, InterOwes, SlowOwes}
+
+pub absent-one : {r t : MainFrame} → AbsentOwes r → AbsentOwes t → r ≡ t
+absent-one = one-answer
+
+pub intra-one : (d : Definition) (last : MainFrame) (x : Raw) {r t : MainFrame} → IntraOwes d last x r → IntraOwes d last x t → r ≡ t
+intra-one d last x f g = one-answer (f none) (g none)
+
+pub inter-one : (d : Definition) (last older : MainFrame) (x : Raw) {r t : MainFrame} → InterOwes d last older x r → InterOwes d last older x t → r ≡ t
+inter-one d last older x = one-answer
+
+pub slow-one : (d : Definition) (x : Raw) {r t : List ℕ} → SlowOwes d x r → SlowOwes d x t → r ≡ t
+slow-one d x = one-answer

@@ -1,0 +1,6 @@
+pub mod Earlier
+pub mod Frames
+pub mod Owes
+pub mod Past
+pub mod Time
+pub mod Values

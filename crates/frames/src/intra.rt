@@ -1,0 +1,55 @@
+// A case `intra LABEL ENCODINGS PREDICTORS MOTOR T B M LAST BYTES`: an intra frame behind another frame, or behind none.
+use crate::LONGEST;
+use crate::define;
+use crate::earlier;
+use crate::parse;
+use crate::show;
+use frame::MainFrame;
+use plan::Definition;
+use reader::Cursor;
+use reader::Step;
+
+fn answer(d: Definition, last: MainFrame, s: &[u8]) {
+    let reading = raws::intra(d, s, Cursor { at: 0 });
+    let step = reading.step;
+    let raw = reading.raw;
+    match step {
+        Step::Next(behind) => {
+            let n = d.main.fields();
+            show::main_frame(frame::intra(d, last, raw), n, behind);
+        }
+        Step::Cut => show::text(b"cut"),
+        Step::Corrupt => show::text(b"corrupt"),
+    }
+}
+
+// Each of the next two answers whether the line is a case, and prints nothing where it is not.
+fn with_definition(label: &[u8], d: Definition, rest: &[u8]) -> bool {
+    let last = earlier::frame_of(words::first(rest), d.main.fields());
+    let mut space = [0u8; LONGEST];
+    let section = words::section::bytes(words::behind(rest), &mut space);
+    if !last.is_right {
+        return false;
+    }
+    if !section.is_hex {
+        return false;
+    }
+    let n = section.length;
+    let frame = last.frame;
+    show::text(label);
+    show::text(b" = ");
+    answer(d, frame, &space[..n]);
+    true
+}
+
+pub fn case(rest: &[u8]) -> bool {
+    let label = words::first(rest);
+    let behind_label = words::behind(rest);
+    let defined = define::main(false, behind_label);
+    if !defined.is {
+        return false;
+    }
+    let d = defined.definition;
+    let behind_motor = parse::behind_three(behind_label);
+    with_definition(label, d, parse::behind_three(behind_motor))
+}

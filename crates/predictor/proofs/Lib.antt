@@ -1,0 +1,6 @@
+pub mod Histories
+pub mod Lines
+pub mod Means
+pub mod One
+pub mod Predictions
+pub mod Sums

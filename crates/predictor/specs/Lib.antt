@@ -1,0 +1,4 @@
+pub mod Histories
+pub mod Owes
+pub mod Predictors
+pub mod Sign

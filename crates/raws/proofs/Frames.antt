@@ -1,0 +1,106 @@
+-- What stands before a frame's fields, and then the fields: the readings of frames at a place, as the code puts them together.
+use Prim.Native.Nat.{ℕ, _≤_}
+use mathlib.Core.List.{List}
+use mathlib.Core.Path.{_≡_, refl, sym, ap, _∙_}
+use lib.ListN.{length, take}
+use lib.Seq.{take-all}
+use borrow.Author.Tests.{eq-eqb, ne-eqb}
+use Rattle.bits.specs.Pattern.{pattern}
+use Rattle.reader.specs.declared.Cursor.{Cursor}
+use Rattle.reader.specs.declared.Read.{Read}
+use Rattle.reader.specs.declared.Read.the-variants as read
+use Rattle.reader.specs.declared.Step.the-variants.{Next, Cut, Corrupt}
+use Rattle.reader.specs.Got.{Spent, Got, got, cut, corrupt, over, after, Reader, onward, _>>=_, give, fault}
+use Rattle.reader.specs.Place.{rest, on, readAt}
+use Rattle.reader.proofs.Reading.{onward-give, onward-got, on-both}
+use Rattle.decode.specs.Variable.{encoding0, encoding1}
+use Rattle.plan.specs.declared.Definition.{Definition}
+use Rattle.plan.specs.Plan.{fields, shape}
+use Rattle.raws.specs.declared.Raw.{Raw}
+use Rattle.raws.specs.declared.Reading.{Reading}
+use Rattle.raws.specs.Groups.{patterned, numbers}
+use Rattle.raws.specs.Place.{stoppedAt, rawAt}
+use Rattle.raws.specs.Raws.{raw, timed, interRaw, slowRaw}
+
+-- ## The fields, behind the numbers before them
+
+-- the first m fields: as the code counts them, and as the meaning reads them
+fields-is : (es s : List ℕ) (i t : ℕ) (c : Cursor) {n m : ℕ} {x : Reading} → n ≡ m → x ≡ rawAt c (over (raw i t) (numbers (take n es) (rest c s)))
+    → x ≡ rawAt c (_>>=_ (numbers (take m es)) (λ vs. give (raw i t vs)) (rest c s))
+unfolding _>>=_
+fields-is es s i t c {m = m} count e =
+    e ∙ ap (λ k. rawAt c (over (raw i t) (numbers (take k es) (rest c s)))) count
+    ∙ ap (rawAt c) (sym (onward-give (raw i t) (rest c s) (numbers (take m es) (rest c s))))
+
+-- a count over the rooms takes them all
+pub all-rooms : (es s : List ℕ) (i t : ℕ) (c : Cursor) (n : ℕ) {x : Reading} → x ≡ rawAt c (over (raw i t) (numbers es (rest c s))) → length es ≤ n
+    → x ≡ rawAt c (over (raw i t) (numbers (take n es) (rest c s)))
+all-rooms es s i t c n e h = e ∙ ap (λ fs. rawAt c (over (raw i t) (numbers fs (rest c s)))) (sym (take-all n es h))
+
+-- ## A number, and what is read behind it
+
+raw-after : (c : Cursor) (u : Spent) (g : Got Raw) → rawAt c (after u g) ≡ rawAt (on c u) g
+unfolding rawAt after
+raw-after c u (got x v) = λ j. record { step = Next (on-both c u v j); raw = x }
+raw-after c u cut = refl
+raw-after c u corrupt = refl
+
+module _ (K : ℕ → Reader Raw) (s : List ℕ) (c : Cursor) where
+  behind-num : (g : Got ℕ) {r : Read} {v : ℕ} {q : Cursor} → r ≡ readAt c g → r ≡ read.Num v q → rawAt c (onward K (rest c s) g) ≡ rawAt q (K v (rest q s))
+  unfolding readAt
+  behind-num (got w u) {v = v} {q} e f =
+      let value : w ≡ v = cc in
+      let place : on c u ≡ q = cc in
+      onward-got rawAt raw-after K s c w u ∙ ap (λ x. rawAt (on c u) (K x (rest (on c u) s))) value ∙ ap (λ p. rawAt p (K v (rest p s))) place
+  behind-num cut e f = cc
+  behind-num corrupt e f = cc
+
+  behind-cut : (g : Got ℕ) {r : Read} → r ≡ readAt c g → r ≡ read.Cut → rawAt c (onward K (rest c s) g) ≡ stoppedAt Cut
+  unfolding readAt onward rawAt
+  behind-cut (got w u) e f = cc
+  behind-cut cut e f = refl
+  behind-cut corrupt e f = cc
+
+  behind-corrupt : (g : Got ℕ) {r : Read} → r ≡ readAt c g → r ≡ read.Corrupt → rawAt c (onward K (rest c s) g) ≡ stoppedAt Corrupt
+  unfolding readAt onward rawAt
+  behind-corrupt (got w u) e f = cc
+  behind-corrupt cut e f = cc
+  behind-corrupt corrupt e f = refl
+
+  module _ (f : Reader ℕ) {r : Read} {x : Reading} (e : r ≡ readAt c (f (rest c s))) where
+    pub then-num : {v : ℕ} {q : Cursor} → r ≡ read.Num v q → x ≡ rawAt q (K v (rest q s)) → x ≡ rawAt c (_>>=_ f K (rest c s))
+    unfolding _>>=_
+    then-num h y = y ∙ sym (behind-num (f (rest c s)) e h)
+
+    pub then-cut : r ≡ read.Cut → x ≡ stoppedAt Cut → x ≡ rawAt c (_>>=_ f K (rest c s))
+    unfolding _>>=_
+    then-cut h y = y ∙ sym (behind-cut (f (rest c s)) e h)
+
+    pub then-corrupt : r ≡ read.Corrupt → x ≡ stoppedAt Corrupt → x ≡ rawAt c (_>>=_ f K (rest c s))
+    unfolding _>>=_
+    then-corrupt h y = y ∙ sym (behind-corrupt (f (rest c s)) e h)
+
+-- ## The frames
+
+module _ (d : Definition) (s : List ℕ) (c : Cursor) {x : Reading} where
+  module _ {r : Read} {t : ℕ} {q : Cursor} {n : ℕ} where
+    -- intra, from the time on
+    pub timed-is : (i : ℕ) → r ≡ readAt c (encoding1 (rest c s)) → r ≡ read.Num t q → n ≡ fields (d .main)
+        → x ≡ rawAt q (over (raw i t) (numbers (take n (d .main .«intra_encodings»)) (rest q s))) → x ≡ rawAt c (timed (shape d .intra) i (rest c s))
+    unfolding timed shape
+    timed-is i e h count y = then-num _ s c encoding1 e h (fields-is (d .main .«intra_encodings») s i t q count y)
+
+    pub inter-is : r ≡ readAt c (over pattern (encoding0 (rest c s))) → r ≡ read.Num t q → n ≡ fields (d .main)
+        → x ≡ rawAt q (over (raw 0 t) (numbers (take n (d .main .«inter_encodings»)) (rest q s))) → x ≡ rawAt c (interRaw (shape d .inter) (rest c s))
+    unfolding interRaw shape patterned
+    inter-is e h count y = then-num _ s c (patterned encoding0) e h (fields-is (d .main .«inter_encodings») s 0 t q count y)
+
+  pub slow-is : x ≡ rawAt c (over (raw 0 0) (numbers (take (d .slow .n) (d .slow .encodings)) (rest c s))) → (d .slow .n ≡ 0 → ⊥)
+      → x ≡ rawAt c (slowRaw (shape d .slow) (rest c s))
+  unfolding shape slowRaw
+  slow-is y more = rw (ne-eqb (d .slow .n) 0 more) (fields-is (d .slow .encodings) s 0 0 c {n = d .slow .n} refl y)
+
+-- no slow lists
+pub slow-none : (d : Definition) (s : List ℕ) (c : Cursor) {x : Reading} → x ≡ stoppedAt Corrupt → d .slow .n ≡ 0 → x ≡ rawAt c (slowRaw (shape d .slow) (rest c s))
+unfolding shape slowRaw fault rawAt
+slow-none d s c e h = rw (eq-eqb (d .slow .n) 0 h) e

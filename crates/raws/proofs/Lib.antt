@@ -1,0 +1,9 @@
+pub mod Counted
+pub mod Encodings
+pub mod Frames
+pub mod Laid
+pub mod Lawful
+pub mod One
+pub mod Over
+pub mod Runs
+pub mod Turns
