@@ -1,5 +1,5 @@
 #!/usr/bin/env python3
-"""Writes the tables of crates/numbers, crates/lists and crates/frames, the stdin and the stdout of each.
+"""Writes the tables of crates/numbers, crates/lists, crates/frames and crates/replay, the stdin and the stdout of each.
 
 make.py            write the files
 make.py --check    compare them with what would be written, and the answers recorded from the Rust with those here
@@ -17,6 +17,8 @@ import frames
 import list_cases
 import lists
 import sections
+import walk_cases
+import walks
 from encoders import seven
 
 HERE = Path(__file__).resolve().parent
@@ -269,9 +271,9 @@ def hold_to_document(pairs, answered):
             sys.exit(f"make.py: document 01 says {said}, here it is {answered(line)}")
 
 
-def hold_labels(crate, lines, answered, others):
-    """No two cases have one label; others tells the lines that have none."""
-    labels = [line.split(" ")[1] for line in lines if answered(line)[0] not in "#?" and not line.startswith(others)]
+def hold_labels(crate, lines, answered, others, word=1):
+    """No two cases have one label; others tells the lines that have none, and word which word is the label."""
+    labels = [line.split(" ")[word] for line in lines if answered(line)[0] not in "#?" and not line.startswith(others)]
     if len(labels) != len(set(labels)):
         sys.exit(f"make.py: two cases of crates/{crate} have one label")
 
@@ -297,6 +299,16 @@ def frames_table():
     lines = frame_cases.table()
     hold_labels("frames", lines, frames.answered, "predict")
     hold_to_document(frame_cases.DOCUMENT, frames.answered)
+    return lines
+
+
+def walks_table():
+    lines = walk_cases.table()
+    hold_labels("replay", lines, walks.answered, (), word=0)
+    answers = [walks.answered(line).splitlines() for line in lines]
+    for label, said in walk_cases.DOCUMENT.items():
+        if [f"= {label}", *said] not in answers:
+            sys.exit(f"make.py: of {label} document 01 says {said}, walks.py says otherwise")
     return lines
 
 
@@ -337,6 +349,7 @@ def replay():
         sys.exit(f"make.py: {RECORDED_LISTS.name} is not about the table's logs; oracle_lists.py records it anew")
     rows += [(label, rust, verdicts[label], differs) for label, rust, differs in answers]
     rows += [(asked, rust, sections.answer(*sections.parsed(asked)), differs) for asked, rust, differs in answers_of(frame_cases.RECORDED)]
+    rows += [(asked, rust, ", ".join(walks.printed(lists.unescaped(asked))), differs) for asked, rust, differs in answers_of(walk_cases.RECORDED)]
     counts = [0, 0]
     for asked, rust, here, differs in rows:
         if (here != rust) != differs:
@@ -346,9 +359,10 @@ def replay():
 
 
 def main():
-    number_lines, list_lines, frame_lines = numbers_table(), lists_table(), frames_table()
-    made = files("numbers", number_lines, answered) | files("lists", list_lines, lists.answered) | files("frames", frame_lines, frames.answered)
-    counted = f"{count(number_lines)} vectors of numbers, {count(list_lines)} of lists and {count(frame_lines)} of frames"
+    number_lines, list_lines, frame_lines, walk_lines = numbers_table(), lists_table(), frames_table(), walks_table()
+    made = files("numbers", number_lines, answered) | files("lists", list_lines, lists.answered)
+    made |= files("frames", frame_lines, frames.answered) | files("replay", walk_lines, walks.answered)
+    counted = f"{count(number_lines)} vectors of numbers, {count(list_lines)} of lists, {count(frame_lines)} of frames and {count(walk_lines)} of walks"
     if sys.argv[1:] == ["--check"]:
         for path, text in made.items():
             if not path.exists() or path.read_bytes() != text.encode("latin-1"):
@@ -357,6 +371,7 @@ def main():
         print(f"make.py: {counted} as stored; of the Rust's answers {equal} equal, {different} different as recorded")
     elif not sys.argv[1:]:
         for path, text in made.items():
+            path.parent.mkdir(exist_ok=True)
             path.write_bytes(text.encode("latin-1"))
         print(f"make.py: {counted} written")
     else:

@@ -69,10 +69,10 @@ def any_predictors(rng, encodings, motor, numbers, straight_9=False, home=False)
     return tuple(chosen)
 
 
-def any_definition(rng, counts=(0, 1, 1, 2, 2, 3, 4, 5, 6, 8, 12, 20, 62), full=True, slow_fields=0, **also):
+def any_definition(rng, counts=(0, 1, 1, 2, 2, 3, 4, 5, 6, 8, 12, 20, 62), full=True, slow_fields=0, given=NUMBERS, **also):
     count = rng.choice(counts)
     motor = rng.randrange(count) if count and rng.randrange(3) else None
-    numbers = tuple(rng.choice(NUMBERS) for _ in NONE)
+    numbers = tuple(rng.choice(given) for _ in NONE)
     encodings = [any_encodings(rng, n, full) for n in (count, count, slow_fields)]
     predictors = [any_predictors(rng, e, m, numbers, **also) for e, m in zip(encodings, (motor, motor, None))]
     return sections.define(encodings, predictors, motor, numbers)
@@ -178,13 +178,13 @@ def pairs_9(rng, count):
         yield from pairs_of(rng, predictor, 9)
 
 
-def faulty(rng, count):
+def faulty(rng, count, **also):
     """One frame of a few fields, whose numbers may be too long, and which may be cut; before these the smallest sections that lie outside the domain."""
     yield plain(), b"P\x80\x80\x80\x80\x10"
     yield plain(3), b"P\x00\x80\x80\x01"
     yield plain(6, 6), b"P\x00\x05"
     for _ in range(count):
-        definition = any_definition(rng, (1, 1, 2, 3, 4, 7))
+        definition = any_definition(rng, (1, 1, 2, 3, 4, 7), **also)
         kind = rng.choice("IP")
         groups = [*HEADS[kind], *frames.groups(definition.fields(kind).encodings)]
         data = kind.encode("ascii") + b"".join(b"" if encoding == 9 else any_reading(rng, encoding, size) for encoding, size in groups)

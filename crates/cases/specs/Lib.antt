@@ -1,3 +1,5 @@
 pub mod Frames
 pub mod Lists
+pub mod Sessions
 pub mod Starred
+pub mod Walks

@@ -20,7 +20,7 @@ main names ip pp ie pe signs =
     "H Field I name:" ++ names ++ "\nH Field I predictor:" ++ ip ++ "\nH Field P predictor:" ++ pp
     ++ "\nH Field I encoding:" ++ ie ++ "\nH Field P encoding:" ++ pe ++ "\nH Field I signed:" ++ signs ++ "\n"
 
-abbrev interval : (numerator denominator : ℕ) → FrameInterval
+abbrev pub interval : (numerator denominator : ℕ) → FrameInterval
 interval n d = record { numerator = n; denominator = d }
 
 -- a log, the header numbers and the interval, and what is found
@@ -48,7 +48,7 @@ abbrev unknown : (list round : ℕ) → String → ListCase
 unknown list round = judged (some (refusal 3 list round))
 
 -- the lists of section A; four items with other predictors; slow lists behind those of section A
-abbrev listsA : String
+abbrev pub listsA : String
 listsA = main "loopIteration,time,motor[0]" "0,0,8" "6,2,1" "1,1,0" "9,0,0" "0,0,0"
 
 abbrev withPredictors : (intra inter : String) → String
@@ -64,7 +64,7 @@ abbrev withFields : ℕ → String
 withFields n =
     main ("loopIteration,time" ++ more n "a") ("0,0" ++ more n "0") ("6,2" ++ more n "0") ("1,1" ++ more n "0") ("9,0" ++ more n "0") ("0,0" ++ more n "0")
 
-abbrev withSlow : (predictors encodings signs : String) → String
+abbrev pub withSlow : (predictors encodings signs : String) → String
 withSlow p e signs = listsA ++ "H Field S name:a,b\nH Field S predictor:" ++ p ++ "\nH Field S encoding:" ++ e ++ "\nH Field S signed:" ++ signs ++ "\n"
 
 unfoldable pub listCases : List ListCase

@@ -1,9 +1,8 @@
 -- A group of encoding 6 by its head, and by its size.
 use Prim.Native.Nat.{ℕ, _^_, _<_, _≤_}
-use mathlib.Core.List.{List, [], _∷_, map}
-use mathlib.Core.Path.{_≡_, refl, sym, ap, _∙_}
-use lib.ListN.{drop}
-use lib.Seq.{drop-drop}
+use mathlib.Core.List.{List, map}
+use mathlib.Core.Path.{_≡_, refl, ap, _∙_}
+use lib.IntN.{ℤ}
 use borrow.Author.Tests.{lt-ltb, le-ltb, le-leb, lt-leb, eq-eqb, ne-eqb}
 use Rattle.bits.specs.Pattern.{pattern}
 use Rattle.reader.specs.declared.Byte.{Byte}
@@ -11,45 +10,35 @@ use Rattle.reader.specs.declared.Byte.the-variants.{Here, End}
 use Rattle.reader.specs.declared.Cursor.{Cursor}
 use Rattle.reader.specs.declared.Group.{Group}
 use Rattle.reader.specs.declared.Step.the-variants as step
-use Rattle.reader.specs.Got.{one, over, after, onward, _>>=_, fault, byte}
+use Rattle.reader.specs.Got.{Spent, Got, over, after, fault}
 use Rattle.reader.specs.Place.{rest, on, byteAt, noValues, groupAt}
+use Rattle.reader.proofs.Behind.{then-here, then-end}
 use Rattle.reader.proofs.Reading.{over-after, group-after}
 use Rattle.decode.specs.TaggedVariable.{fields, headed, alone, encoding6}
 
-module _ (n : ℕ) (c : Cursor) (r : Byte) where
-  pub head-end : (t : List ℕ) → r ≡ byteAt c t → r ≡ End → noValues step.Cut ≡ groupAt c (over (map pattern) (headed n t))
-  unfolding byteAt headed _>>=_ byte onward over groupAt
-  head-end [] e f = refl
-  head-end (b ∷ t) e f = cc
+-- a group at a place, its numbers as patterns
+abbrev patternsAt : Cursor → Got (List ℤ) → Group
+patternsAt c g = groupAt c (over (map pattern) g)
 
-  pub head-high : (t : List ℕ) {h : ℕ} {q : Cursor} → r ≡ byteAt c t → r ≡ Here h q → 2 ^ n ≤ h → noValues step.Corrupt ≡ groupAt c (over (map pattern) (headed n t))
-  unfolding byteAt headed _>>=_ byte onward after fault over groupAt
-  head-high [] e f le = cc
-  head-high (b ∷ t) {h} e f le =
-      let same : h ≡ b = cc in
-      rw (le-ltb b (2 ^ n) (rw same at le))
+patterns-after : (c : Cursor) (u : Spent) (g : Got (List ℤ)) → patternsAt c (after u g) ≡ patternsAt (on c u) g
+patterns-after c u g = ap (groupAt c) (over-after (map pattern) u g) ∙ group-after c u (over (map pattern) g)
 
-  low : (t : List ℕ) {h : ℕ} {q : Cursor} → r ≡ byteAt c t → r ≡ Here h q → h < 2 ^ n
-      → groupAt q (over (map pattern) (fields n h (drop 1 t))) ≡ groupAt c (over (map pattern) (headed n t))
-  unfolding byteAt headed _>>=_ byte onward
-  low [] e f lt = cc
-  low (b ∷ t) {h} {q} e f lt =
-      let same : h ≡ b = cc in
-      let place : q ≡ on c one = cc in
-      rw (lt-ltb b (2 ^ n) (rw same at lt), same, place)
-      (sym (ap (groupAt c) (over-after (map pattern) one (fields n b t)) ∙ group-after c one (over (map pattern) (fields n b t))))
+-- ## The group by its head
 
-  next-place : (t : List ℕ) {h : ℕ} {q : Cursor} → r ≡ byteAt c t → r ≡ Here h q → on c one ≡ q
-  unfolding byteAt
-  next-place [] e f = cc
-  next-place (b ∷ t) e f = cc
+module _ (n : ℕ) (c : Cursor) (r : Byte) (s : List ℕ) where
+  pub head-end : r ≡ byteAt c (rest c s) → r ≡ End → noValues step.Cut ≡ groupAt c (over (map pattern) (headed n (rest c s)))
+  unfolding headed over groupAt
+  head-end e f = then-end patternsAt patterns-after _ s c e f refl
+
+  pub head-high : {h : ℕ} {q : Cursor} → r ≡ byteAt c (rest c s) → r ≡ Here h q → 2 ^ n ≤ h → noValues step.Corrupt ≡ groupAt c (over (map pattern) (headed n (rest c s)))
+  unfolding headed fault over groupAt
+  head-high {h} e f le = then-here patternsAt patterns-after _ s c e f (rw (le-ltb h (2 ^ n) le))
 
   -- where the head is in order, the fields are read at the next place
-  pub head-low : (s : List ℕ) {x : Group} {h : ℕ} {q : Cursor} → x ≡ groupAt q (over (map pattern) (fields n h (rest q s)))
+  pub head-low : {x : Group} {h : ℕ} {q : Cursor} → x ≡ groupAt q (over (map pattern) (fields n h (rest q s)))
       → r ≡ byteAt c (rest c s) → r ≡ Here h q → h < 2 ^ n → x ≡ groupAt c (over (map pattern) (headed n (rest c s)))
-  head-low s {h = h} {q} a e f lt =
-      let same : drop 1 (rest c s) ≡ rest q s = drop-drop 1 (c .at) s ∙ ap (λ p. rest p s) (next-place (rest c s) e f) in
-      a ∙ ap (λ t. groupAt q (over (map pattern) (fields n h t))) (sym same) ∙ low (rest c s) e f lt
+  unfolding headed
+  head-low {h = h} a e f lt = then-here patternsAt patterns-after _ s c e f (rw (lt-ltb h (2 ^ n) lt) a)
 
 -- ## The group by its size
 

@@ -1,15 +1,14 @@
 -- Whole frames from their parts: the lists of a definition cut at the field count, and what the frames before leave.
 use Prim.Native.Nat.{ℕ, zero, suc, _+_, min}
-use mathlib.Core.Bool.{Bool, true, false, cond}
+use mathlib.Core.Bool.{Bool, false, cond}
 use mathlib.Core.List.{List}
 use mathlib.Core.Option.{Option, none, some}
 use mathlib.Core.Path.{_≡_, refl, sym, ap, ap₂, _∙_}
 use native.Mathlib.Omega.{arith}
-use lib.Dec.{ltb, eqb}
+use lib.Dec.{eqb}
 use lib.IntN.{_+ℤ_}
 use lib.ListN.{length, take, replicate, length-take}
-use lib.Seq.{take-all}
-use borrow.Author.Tests.{ltb-true, ltb-false, ne-eqb}
+use borrow.Author.Tests.{ne-eqb}
 use Rattle.bits.specs.Pattern.{wrap, meant}
 use Rattle.plan.specs.declared.Definition.{Definition}
 use Rattle.plan.specs.declared.Main.{Main}

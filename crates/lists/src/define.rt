@@ -1,6 +1,5 @@
 // A case `define LABEL T B M N D LOG`: what a log's header says, and what its lists come to with three header numbers and an interval.
-use crate::escapes;
-use crate::escapes::LONGEST;
+use crate::LONGEST;
 use crate::show;
 use definition::Defined;
 use definition::Verdict;
@@ -9,6 +8,7 @@ use plan::FrameInterval;
 use plan::HeaderNumber;
 use plan::Numbers;
 use words::Number;
+use words::escapes;
 
 enum Word {
     Is(HeaderNumber),

@@ -3,10 +3,12 @@
 use libc::STDIN_FILENO;
 
 mod define;
-mod escapes;
 mod name;
 mod shapes;
 mod show;
+
+// The longest text of a case.
+const LONGEST: usize = 2048;
 
 // Answers whether the line is a case, and prints nothing where it is not.
 fn case(line: &[u8]) -> bool {

@@ -1,11 +1,11 @@
 // A case `name LABEL KIND K MAIN SLOW LOG`: the name of a field of a log's definition, asked with two lists of names.
+use crate::LONGEST;
 use crate::define;
-use crate::escapes;
-use crate::escapes::LONGEST;
 use crate::show;
 use items::Stretch;
 use names::Kind;
 use words::Number;
+use words::escapes;
 
 enum Word {
     Is(Kind),

@@ -10,9 +10,10 @@ use Rattle.reader.specs.declared.Cursor.{Cursor}
 use Rattle.reader.specs.declared.Read.{Read}
 use Rattle.reader.specs.declared.Read.the-variants as read
 use Rattle.reader.specs.declared.Step.the-variants.{Next, Cut, Corrupt}
-use Rattle.reader.specs.Got.{Spent, Got, got, cut, corrupt, over, after, Reader, onward, _>>=_, give, fault}
+use Rattle.reader.specs.Got.{Spent, Got, got, cut, corrupt, over, after, Reader, _>>=_, give, fault}
 use Rattle.reader.specs.Place.{rest, on, readAt}
-use Rattle.reader.proofs.Reading.{onward-give, onward-got, on-both}
+use Rattle.reader.proofs.Behind as behind
+use Rattle.reader.proofs.Reading.{onward-give, on-both}
 use Rattle.decode.specs.Variable.{encoding0, encoding1}
 use Rattle.plan.specs.declared.Definition.{Definition}
 use Rattle.plan.specs.Plan.{fields, shape}
@@ -45,40 +46,15 @@ raw-after c u (got x v) = λ j. record { step = Next (on-both c u v j); raw = x 
 raw-after c u cut = refl
 raw-after c u corrupt = refl
 
-module _ (K : ℕ → Reader Raw) (s : List ℕ) (c : Cursor) where
-  behind-num : (g : Got ℕ) {r : Read} {v : ℕ} {q : Cursor} → r ≡ readAt c g → r ≡ read.Num v q → rawAt c (onward K (rest c s) g) ≡ rawAt q (K v (rest q s))
-  unfolding readAt
-  behind-num (got w u) {v = v} {q} e f =
-      let value : w ≡ v = cc in
-      let place : on c u ≡ q = cc in
-      onward-got rawAt raw-after K s c w u ∙ ap (λ x. rawAt (on c u) (K x (rest (on c u) s))) value ∙ ap (λ p. rawAt p (K v (rest p s))) place
-  behind-num cut e f = cc
-  behind-num corrupt e f = cc
+module _ (K : ℕ → Reader Raw) (s : List ℕ) (c : Cursor) (f : Reader ℕ) {r : Read} {x : Reading} (e : r ≡ readAt c (f (rest c s))) where
+  pub then-num : {v : ℕ} {q : Cursor} → r ≡ read.Num v q → x ≡ rawAt q (K v (rest q s)) → x ≡ rawAt c (_>>=_ f K (rest c s))
+  then-num h y = behind.then-num rawAt raw-after K s c f e h y
 
-  behind-cut : (g : Got ℕ) {r : Read} → r ≡ readAt c g → r ≡ read.Cut → rawAt c (onward K (rest c s) g) ≡ stoppedAt Cut
-  unfolding readAt onward rawAt
-  behind-cut (got w u) e f = cc
-  behind-cut cut e f = refl
-  behind-cut corrupt e f = cc
+  pub then-cut : r ≡ read.Cut → x ≡ stoppedAt Cut → x ≡ rawAt c (_>>=_ f K (rest c s))
+  then-cut h y = behind.then-cut rawAt raw-after K s c f e h (unfold rawAt in y)
 
-  behind-corrupt : (g : Got ℕ) {r : Read} → r ≡ readAt c g → r ≡ read.Corrupt → rawAt c (onward K (rest c s) g) ≡ stoppedAt Corrupt
-  unfolding readAt onward rawAt
-  behind-corrupt (got w u) e f = cc
-  behind-corrupt cut e f = cc
-  behind-corrupt corrupt e f = refl
-
-  module _ (f : Reader ℕ) {r : Read} {x : Reading} (e : r ≡ readAt c (f (rest c s))) where
-    pub then-num : {v : ℕ} {q : Cursor} → r ≡ read.Num v q → x ≡ rawAt q (K v (rest q s)) → x ≡ rawAt c (_>>=_ f K (rest c s))
-    unfolding _>>=_
-    then-num h y = y ∙ sym (behind-num (f (rest c s)) e h)
-
-    pub then-cut : r ≡ read.Cut → x ≡ stoppedAt Cut → x ≡ rawAt c (_>>=_ f K (rest c s))
-    unfolding _>>=_
-    then-cut h y = y ∙ sym (behind-cut (f (rest c s)) e h)
-
-    pub then-corrupt : r ≡ read.Corrupt → x ≡ stoppedAt Corrupt → x ≡ rawAt c (_>>=_ f K (rest c s))
-    unfolding _>>=_
-    then-corrupt h y = y ∙ sym (behind-corrupt (f (rest c s)) e h)
+  pub then-corrupt : r ≡ read.Corrupt → x ≡ stoppedAt Corrupt → x ≡ rawAt c (_>>=_ f K (rest c s))
+  then-corrupt h y = behind.then-corrupt rawAt raw-after K s c f e h (unfold rawAt in y)
 
 -- ## The frames
 

@@ -86,7 +86,7 @@ none-later s p q h e =
     ap (λ n. ahead (drop n s)) (sym z) ∙ ap ahead (sym (drop-drop (q - p) p s)) ∙ none-behind (q - p) (drop p s) e
 
 -- the same of what the code answers
-barren-none : (o : Option ℕ) → skipOf o .barren ≡ true → o ≡ none
+pub barren-none : (o : Option ℕ) → skipOf o .barren ≡ true → o ≡ none
 unfolding skipOf
 barren-none none e = refl
 barren-none (some m) e = absurd (true≢false (sym e))

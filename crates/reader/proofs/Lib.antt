@@ -1,3 +1,4 @@
+pub mod Behind
 pub mod Bytes
 pub mod Every
 pub mod Found

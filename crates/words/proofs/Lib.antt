@@ -1,6 +1,9 @@
+pub mod Buffers
 pub mod Digits
 pub mod Nibbles
 pub mod One
 pub mod Pairs
 pub mod Parting
+pub mod Parts
 pub mod Putting
+pub mod Texts

@@ -5,8 +5,9 @@ use mathlib.Core.List.{List}
 use mathlib.Core.Path.{_≡_, sym, ap, _∙_}
 use Rattle.words.specs.declared.Byte.{Byte}
 use Rattle.words.specs.declared.Number.{Number}
+use Rattle.words.specs.declared.escapes.Unescaped.{Unescaped}
 use Rattle.words.specs.declared.section.Section.{Section}
-use Rattle.words.specs.Owes.{UntilOwes, FirstOwes, BehindOwes, IsHeadingOwes, DecimalOwes, HexOwes, BytesOwes}
+use Rattle.words.specs.Owes.{UntilOwes, FirstOwes, BehindOwes, IsHeadingOwes, DecimalOwes, HexOwes, BytesOwes, UnescapeOwes, WordOwes}
 
 -- a promise is one equation to a definition
 one-answer : {A : Type 0} {x r t : A} → r ≡ x → t ≡ x → r ≡ t
@@ -30,6 +31,15 @@ decimal-one s = one-answer
 pub hex-one : (high low : ℕ) {r t : Byte} → HexOwes high low r → HexOwes high low t → r ≡ t
 hex-one high low = one-answer
 
--- the section, and all that the lent buffer holds
+-- an answer, and all that the lent buffer holds
+one-answer-put : {A B : Type 0} {x : A × B} {r t : A} {after other : B} → (r, after) ≡ x → (t, other) ≡ x → (r ≡ t) × (after ≡ other)
+one-answer-put p q = (ap (λ x. x .0) (one-answer p q), ap (λ x. x .1) (one-answer p q))
+
 pub bytes-one : (text out : List ℕ) {r t : Section} {after other : List ℕ} → BytesOwes text out r after → BytesOwes text out t other → (r ≡ t) × (after ≡ other)
-bytes-one text out p q = (ap (λ x. x .0) (one-answer p q), ap (λ x. x .1) (one-answer p q))
+bytes-one text out = one-answer-put
+
+pub unescape-one : (text out : List ℕ) {r t : Unescaped} {after other : List ℕ} → UnescapeOwes text out r after → UnescapeOwes text out t other → (r ≡ t) × (after ≡ other)
+unescape-one text out = one-answer-put
+
+pub word-one : (text out : List ℕ) {r t : Unescaped} {after other : List ℕ} → WordOwes text out r after → WordOwes text out t other → (r ≡ t) × (after ≡ other)
+word-one text out = one-answer-put

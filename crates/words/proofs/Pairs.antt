@@ -5,12 +5,12 @@ use mathlib.Core.List.{List, [], _∷_}
 use mathlib.Core.Path.{_≡_, refl, sym, ap, subst, _∙_}
 use native.Mathlib.Omega.{arith}
 use lib.Dec.{eqb, leb}
-use lib.ListN.{length, drop, getD, drop-of-length-le, length-append}
-use lib.Seq.{length-take-le}
+use lib.ListN.{length, drop, getD, drop-of-length-le}
 use borrow.Author.Tests.{lt-ltb, le-ltb, le-leb, lt-leb}
 use Rattle.words.specs.declared.section.Section.{Section}
 use Rattle.words.specs.Sections.{paired, pairs, isSection, over, noSection, sectionOf, Counts}
 use Rattle.words.specs.Words.{nibble}
+use Rattle.words.proofs.Buffers.{over-within, counts}
 use Rattle.words.proofs.Parting.{drop-step}
 
 -- the two bytes at i, and what lies behind them
@@ -135,16 +135,10 @@ either true x y f g = f
 either false x y f g = g
 
 section-fits : (text out : List ℕ) → Fits (sectionOf text out)
-unfolding sectionOf noSection over
+unfolding sectionOf noSection
 section-fits text out =
-    either (isSection text && leb (length (pairs text)) (length out)) _ _ (omega (arith, length-append (pairs text) (drop (length (pairs text)) out))) (omega arith)
-
--- the bytes lie within the buffer
-pub section-within : (text out : List ℕ) {r : Section} {after : List ℕ} → (r, after) ≡ sectionOf text out → r .length ≤ length after
-section-within text out e = subst Fits (sym e) (section-fits text out)
+    either (isSection text && leb (length (pairs text)) (length out)) _ _ (over-within (pairs text) out) (omega arith)
 
 -- the two parts of the contract, by the first
 pub section-counts : (text out : List ℕ) {r : Section} {after : List ℕ} → (r, after) ≡ sectionOf text out → ((r, after) ≡ sectionOf text out) × Counts (r .length) after
-section-counts text out {r} {after} e =
-    let h : r .length ≤ length after = section-within text out e in
-    (e, (h, sym (length-take-le (r .length) after h)))
+section-counts text out {r} {after} e = (e, counts (r .length) after (subst Fits (sym e) (section-fits text out)))

@@ -16,10 +16,10 @@ pub drop-step : (s : List ℕ) (i : ℕ) → i < length s → drop i s ≡ getD 
 drop-step s i h = rw (add-one i, drop-cons s i 0 h)
 
 -- from i to the end, as the code takes it
-abbrev rest : ℕ → List ℕ → List ℕ
+abbrev pub rest : ℕ → List ℕ → List ℕ
 rest i s = take (length s - i) (drop i s)
 
-rest-all : (i : ℕ) (s : List ℕ) → rest i s ≡ drop i s
+pub rest-all : (i : ℕ) (s : List ℕ) → rest i s ≡ drop i s
 rest-all i s = take-all (length s - i) (drop i s) (omega (arith, length-drop i s))
 
 -- ## To the first b

@@ -1,17 +1,17 @@
 -- The bytes that pairs write, put into a buffer one after the other.
-use Prim.Native.Nat.{ℕ, _+_, _-_, _*_, _/_, _<_, _≤_}
+use Prim.Native.Nat.{ℕ, _+_, _*_, _/_, _<_, _≤_}
 use mathlib.Core.Bool.{true, _&&_, and-eq-true-iff}
 use mathlib.Core.List.{List, [], _∷_}
 use mathlib.Core.Path.{_≡_, refl, sym, ap, _∙_}
-use native.Mathlib.Nat.{zero-add}
 use native.Mathlib.Numerals.{add-one}
 use native.Mathlib.Omega.{arith}
 use lib.Dec.{ltb}
 use lib.ListN.{length, drop, getD, set, length-set, length-drop}
-use lib.Seq.{sets, sets-eq}
+use lib.Seq.{sets}
 use borrow.Author.Tests.{ltb-true}
 use Rattle.words.specs.Sections.{paired, pairs, over}
 use Rattle.words.specs.Words.{nibble}
+use Rattle.words.proofs.Buffers.{sets-over}
 use Rattle.words.proofs.Pairs.{Digit, drop-pair, pairs-count}
 
 -- the digits of the first pair are right
@@ -63,8 +63,7 @@ module _ {s there out : List ℕ} {i : ℕ} (put : Put s there out i) where
         }
 
   pub put-all : length s / 2 ≤ i → out ≡ over (pairs s) there
-  unfolding over
   put-all h =
       let none : pairs (drop (i + i) s) ≡ [] = short-none (drop (i + i) s) (omega (arith, length-drop (i + i) s)) in
-      let whole : 0 + length (pairs s) ≤ length there = omega (arith, pairs-count s, put .fit) in
-      sym (ap (sets out i) none) ∙ put .is ∙ sets-eq (pairs s) there 0 whole ∙ rw (zero-add (length (pairs s)))
+      let whole : length (pairs s) ≤ length there = omega (arith, pairs-count s, put .fit) in
+      sym (ap (sets out i) none) ∙ put .is ∙ sets-over (pairs s) there whole

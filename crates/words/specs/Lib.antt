@@ -1,3 +1,4 @@
+pub mod Escapes
 pub mod Owes
 pub mod Sections
 pub mod Words

@@ -5,7 +5,9 @@ use mathlib.Core.List.{List}
 use mathlib.Core.Path.{_≡_}
 use Rattle.words.specs.declared.Byte.{Byte}
 use Rattle.words.specs.declared.Number.{Number}
+use Rattle.words.specs.declared.escapes.Unescaped.{Unescaped}
 use Rattle.words.specs.declared.section.Section.{Section}
+use Rattle.words.specs.Escapes.{bytesOf, wordOf, putOf}
 use Rattle.words.specs.Sections.{sectionOf}
 use Rattle.words.specs.Words.{before, firstWord, otherWords, heading, decimalOf, hexOf}
 
@@ -29,3 +31,9 @@ HexOwes high low r = r ≡ hexOf high low
 
 abbrev pub BytesOwes : (text out : List ℕ) → Section → (after : List ℕ) → Type 0
 BytesOwes text out r after = (r, after) ≡ sectionOf text out
+
+abbrev pub UnescapeOwes : (text out : List ℕ) → Unescaped → (after : List ℕ) → Type 0
+UnescapeOwes text out r after = (r, after) ≡ putOf (bytesOf text) out
+
+abbrev pub WordOwes : (text out : List ℕ) → Unescaped → (after : List ℕ) → Type 0
+WordOwes text out r after = (r, after) ≡ putOf (wordOf text) out

@@ -6,6 +6,7 @@ ghost use Prim.Native.Nat.{_≤_};
 ghost use Rattle.words.specs.Owes.{UntilOwes, FirstOwes, BehindOwes, IsHeadingOwes, DecimalOwes, HexOwes};
 ghost use Rattle.words.specs.Words.{nibble, written};
 
+pub mod escapes;
 pub mod section;
 
 // A byte that two digits write.

@@ -1,0 +1,6 @@
+pub mod Calls
+pub mod Loop
+pub mod One
+pub mod Ticks
+pub mod Trials
+pub mod Until

@@ -1,0 +1,5 @@
+pub mod Lawful
+pub mod One
+pub mod Patterns
+pub mod Texts
+pub mod Told

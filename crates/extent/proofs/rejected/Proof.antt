@@ -1,0 +1,13 @@
+-- `extent::rejected` meets its contract: a search from the point. Assumes nothing.
+use borrow.Author.Needs.{needs}
+use Rattle.extent.proofs.Trials.{rejected-by}
+use Rattle.extent.proofs.rejected.Statement.{statement}
+use Rattle.extent.proofs.rejected.Tie as tie
+
+pub rejected-spec : {M : Type 1} → statement M
+rejected-spec =
+    tie.close
+    (tie.spec
+    (λ c κs. search needs)
+    (λ c κs. search needs)
+    (λ c. rejected-by _ (c .without-numbers .ensures) (c .before .search .ensures)))

@@ -1,0 +1,61 @@
+// The two main frames before the next: the Rust's MainFrameHistory, data.rs.
+// Each step takes the history and hands it back.
+ghost use mathlib.Core.Path.{_≡_};
+ghost use Rattle.history.specs.History.{inOrder};
+ghost use Rattle.history.specs.Owes.{EmptyOwes, PushedOwes, IsSoundOwes};
+use frame::MainFrame;
+use frame::Mark;
+
+pub struct History {
+    pub last: MainFrame,
+    pub older: MainFrame,
+}
+
+// Whether there is no older frame without a last.
+fn are_in_order(last: Mark, older: Mark) -> bool
+    ensures { λ r. ⌜ r ≡ inOrder last older ⌝ }
+{
+    match last {
+        Mark::Absent => match older {
+            Mark::Absent => true,
+            Mark::Intra => false,
+            Mark::Inter => false,
+        },
+        Mark::Intra => true,
+        Mark::Inter => true,
+    }
+}
+
+impl History {
+    // Before a section's first main frame.
+    pub fn empty() -> History
+        ensures { λ r. ⌜ EmptyOwes r ⌝ }
+    {
+        History {
+            last: MainFrame::absent(),
+            older: MainFrame::absent(),
+        }
+    }
+
+    // An accepted main frame becomes last, and last becomes older.
+    pub fn pushed(self, frame: MainFrame) -> History
+        ensures { λ r. ⌜ PushedOwes self frame r ⌝ }
+    {
+        let was_last = self.last;
+        History {
+            last: frame,
+            older: was_last,
+        }
+    }
+
+    // Whether a walk may have it.
+    pub fn is_sound(self) -> bool
+        ensures { λ r. ⌜ IsSoundOwes self r ⌝ }
+    {
+        let last = self.last;
+        let older = self.older;
+        let last_mark = last.mark;
+        let older_mark = older.mark;
+        are_in_order(last_mark, older_mark)
+    }
+}

@@ -1,0 +1,12 @@
+pub mod Admitted
+pub mod Checks
+pub mod Effects
+pub mod Filling
+pub mod Looks
+pub mod One
+pub mod Paper
+pub mod Rooms
+pub mod Stays
+pub mod Sums
+pub mod Tallies
+pub mod Trials

@@ -1,0 +1,6 @@
+pub mod Answers
+pub mod Fits
+pub mod Owes
+pub mod Refusals
+pub mod Tally
+pub mod Walk

@@ -1,0 +1,3 @@
+pub mod Owes
+pub mod Reached
+pub mod Walks
