@@ -312,6 +312,21 @@ def walks_table():
     return lines
 
 
+def hold_pairs():
+    """The bytes of crates/cases/specs/Pairs.antt are those of the logs in examples/."""
+    text = (CRATES / "cases" / "specs" / "Pairs.antt").read_text("utf-8")
+
+    def bytes_of(name):
+        body = re.search(rf"^{name} =\s(.*?)\n\n", text, re.M | re.S)[1]
+        parts = re.findall(r'0x(..)|ascii "(.*?)"|^(\w+) \+\+', body)
+        return b"".join(bytes.fromhex(byte) or word.encode("ascii") or bytes_of(other) for byte, word, other in parts)
+
+    lines = walk_cases.example("section-a").removesuffix(bytes.fromhex(walk_cases.SECTION_A))
+    for name, parts in walk_cases.FLIGHTS.items():
+        if walk_cases.example(name) != lines + b"".join(map(bytes_of, parts)):
+            sys.exit(f"make.py: examples/{name}.log is not the section that crates/cases/specs/Pairs.antt is about")
+
+
 def files(crate, lines, answered):
     """The two files of a program, a byte a character: its cases and its answers."""
     made = {
@@ -367,6 +382,7 @@ def main():
         for path, text in made.items():
             if not path.exists() or path.read_bytes() != text.encode("latin-1"):
                 sys.exit(f"make.py: {path.relative_to(TOP)} is not what make.py writes")
+        hold_pairs()
         equal, different = replay()
         print(f"make.py: {counted} as stored; of the Rust's answers {equal} equal, {different} different as recorded")
     elif not sys.argv[1:]:

@@ -5,9 +5,13 @@ import walks
 from list_cases import BARE, MOTOR, at_the_end, field, header, item, longer, main, shorter, slow, without
 from lists import TEXT, unescaped
 
-RECORDED = Path(__file__).resolve().parent / "oracle-walks.txt"
+HERE = Path(__file__).resolve().parent
+RECORDED = HERE / "oracle-walks.txt"
+EXAMPLES = HERE.parent / "examples"
 
 END_OF_LOG = "45 ff 45 6e 64 20 6f 66 20 6c 6f 67 00"
+# The examples of two flights: which of the lists in crates/cases/specs/Pairs.antt make up their sections.
+FLIGHTS = {"older-flight": ("older", "between", "tail"), "newer-flight": ("newer", "tail"), "power-cut": ("cutOff", "between", "tail")}
 SECTION_A = "49 05 64 14 50 0a 02 50 00 01 " + END_OF_LOG
 
 # What document 01 says of some cases, as the answers have it; the counts of trials follow from its rules.
@@ -340,6 +344,16 @@ def counts():
     yield bare("tail-with-no-end-before", f"49 05 64 50 02 0a 02 50 02 49 63 63 50 02 {END_OF_LOG}")
 
 
+def example(name):
+    return (EXAMPLES / f"{name}.log").read_bytes()
+
+
+def examples():
+    """The logs of examples/, as their files are, but for section A, which document 01 gives."""
+    for name in FLIGHTS:
+        yield case(name, example(name).decode("latin-1"))
+
+
 def asked_of_the_rust():
     """Some of the logs that the Rust was asked."""
     lines = [line.split(" = ")[0] for line in RECORDED.read_text("ascii").splitlines() if not line.startswith("#")]
@@ -381,6 +395,7 @@ WALKS = (
 )
 SECTIONS = (
     *WALKS,
+    ("Two flights, one behind the other (examples/)", examples),
     ("What the Rust was asked (vectors/oracle-walks.txt)", asked_of_the_rust),
     ("How cases are written", small_matters),
     ("Lines that are no case", no_cases),
@@ -392,7 +407,7 @@ def table():
 
 
 def logs():
-    """The logs of the table, but for those that the Rust was asked before."""
+    """The logs of the table, but for the examples and those that the Rust was asked before."""
     for _, cases in WALKS:
         for line in cases():
             _, log = walks.words(line)

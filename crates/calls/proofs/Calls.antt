@@ -17,8 +17,9 @@ use Rattle.section.specs.declared.Walk.{Walk}
 use Rattle.section.specs.Answers.{Told, checkedFirst, handed, isOver, refusing, told}
 use Rattle.section.specs.Refusals.{admitted, checked}
 use Rattle.section.specs.Walk.{over, tick}
+use Rattle.section.proofs.Alike.{isGoing}
 use Rattle.section.proofs.Paper.{paper-injective}
-use Rattle.section.proofs.Stays.{isGoing, over-lasts, tick-admitted, tick-counts}
+use Rattle.section.proofs.Stays.{over-lasts, tick-admitted, tick-counts}
 use Rattle.calls.specs.Call.{says, isSaid, left, called}
 use Rattle.calls.specs.Owes.{CallOwes}
 use Rattle.calls.proofs.Until.{until-keeps, until-by, until-is-last}

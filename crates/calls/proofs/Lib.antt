@@ -3,4 +3,5 @@ pub mod Loop
 pub mod One
 pub mod Ticks
 pub mod Trials
+pub mod Turns
 pub mod Until

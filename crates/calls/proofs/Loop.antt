@@ -31,7 +31,8 @@ use Rattle.section.specs.Refusals.{admitted}
 use Rattle.section.specs.Tally.{placeAfter, endingAfter, tallyAfter}
 use Rattle.section.specs.Walk.{Outcome, answerWith, answerAfter, historyAfter, settled, over, tick}
 use Rattle.section.proofs.Admitted.{admitted-place, admitted-fits}
-use Rattle.section.proofs.Stays.{isGoing, tick-admitted, tick-going, tick-counts}
+use Rattle.section.proofs.Alike.{isGoing}
+use Rattle.section.proofs.Stays.{tick-admitted, tick-going, tick-counts}
 use Rattle.calls.specs.declared.Vain.{Vain}
 use Rattle.calls.specs.declared.Vain.the-variants.{Searched, Says}
 use Rattle.calls.specs.Call.{says, called}

@@ -7,7 +7,7 @@ use native.Mathlib.Omega.{arith}
 use Rattle.bits.proofs.Laws.{by-test}
 use Rattle.section.specs.declared.Walk.{Walk}
 use Rattle.section.specs.Walk.{Outcome}
-use Rattle.calls.specs.Call.{until}
+use Rattle.calls.specs.Call.{after, until}
 
 -- a step that is not the last goes on
 abbrev pub Moves : (Walk → Outcome) → (Outcome → Bool) → Type 0
@@ -21,6 +21,19 @@ Ends step last size = (w : Walk) → size ≤ w .tally .place → last (step w) 
 cond-on : {A : Type 0} (t : Bool) (a : A) {b c : A} → (t ≡ false → b ≡ c) → cond t a b ≡ cond t a c
 cond-on true a h = refl
 cond-on false a h = h refl
+
+-- n steps
+module _ (step : Walk → Outcome) where
+  pub after-suc : (n : ℕ) (w : Walk) → after step (suc n) w ≡ step (after step n w) .walk
+  unfolding after
+  after-suc zero w = refl
+  after-suc (suc n) w = after-suc n (step w .walk)
+
+  -- keep what every step keeps
+  pub after-keeps : (P : Walk → Type 0) → ((w : Walk) → P w → P (step w .walk)) → (n : ℕ) (w : Walk) → P w → P (after step n w)
+  unfolding after
+  after-keeps P keeps zero w p = p
+  after-keeps P keeps (suc n) w p = after-keeps P keeps n (step w .walk) (keeps w p)
 
 module _ (step : Walk → Outcome) (last : Outcome → Bool) where
   pub until-last : (n : ℕ) (w : Walk) → last (step w) ≡ true → until step last n w ≡ step w

@@ -9,6 +9,11 @@ use Rattle.section.specs.declared.Answer.the-variants.{Passed, Rejected, Event,
 use Rattle.section.specs.declared.Walk.{Walk}
 use Rattle.section.specs.Walk.{Outcome, tick}
 
+-- the walk behind n steps
+unfoldable pub after : (step : Walk → Outcome) → (n : ℕ) → Walk → Walk
+after step zero w = w
+after step (suc n) w = after step n (step w .walk)
+
 -- steps until one is the last, and at most n steps behind the first
 unfoldable pub until : (step : Walk → Outcome) → (last : Outcome → Bool) → (n : ℕ) → Walk → Outcome
 until step last zero w = step w

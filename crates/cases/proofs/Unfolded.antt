@@ -7,6 +7,7 @@ use Rattle.decode.specs.Variable as variable
 use Rattle.tagged.specs.Choose.{pairs}
 use Rattle.tagged.specs.Tagged16 as tagged16
 use Rattle.tagged.specs.Tagged32 as tagged32
+use Rattle.predictor.specs.Histories as histories
 use Rattle.predictor.specs.Predictors as predictors
 use Rattle.predictor.specs.Sign as sign
 use Rattle.plan.specs.Known as known
@@ -27,6 +28,8 @@ use Rattle.section.specs.Tally as tally
 use Rattle.section.specs.Walk as section
 use Rattle.calls.specs.Call as calls
 use Rattle.walks.specs.Walks as walks
+use Rattle.resync.specs.From as from
+use Rattle.resync.specs.Runs as runs
 use Rattle.header.specs.Header as header
 use Rattle.header.specs.Lines as lines
 use Rattle.items.specs.Items as items
@@ -92,3 +95,8 @@ unfolding walkOpen known.among sound.known sound.soundMain sound.soundSlow sound
     refusals.cuts refusals.partsOf refusals.tallySound refusals.admitted refusals.needed refusals.checked answers.handed answers.refusing answers.checkedFirst
     walks.countedAt walks.isReached walks.isLast walks.walked walks.checkedState walks.throughOf walks.filledOf
 wholeOpen = tt
+
+-- what calls of a walk show, step by step, and which frames predictors read
+unfoldable pub runsOpen : Unit {0}
+unfolding walkOpen calls.after runs.shown runs.isIntra runs.isInter from.answerFrom from.frameAt from.triedAt known.among histories.readsLast histories.readsOlder histories.noneReads
+runsOpen = tt

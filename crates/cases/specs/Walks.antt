@@ -40,19 +40,19 @@ pub data Case : Type 0 where
 -- ## Definitions
 
 -- that of document 01's lists
-abbrev byListsA : Definition
+abbrev pub byListsA : Definition
 byListsA = definitionIn (ascii listsA)
 
--- so many items and slow items, of which the first behind `time` and the first slow one have this predictor and this encoding
-abbrev made : (items slowItems predictor encoding : ℕ) → Definition
-made n m p e =
+-- so many items and slow items, of which the first behind `time` has these predictors in intra and inter frames, and the first slow one that of intra frames; all have this encoding
+abbrev pub madeOf : (items slowItems intra inter encoding : ℕ) → Definition
+madeOf n m p q e =
     record {
       main =
           record {
             n = n;
             motor = 62;
             «intra_predictors» = padded 62 (p ∷ []);
-            «inter_predictors» = padded 62 (p ∷ []);
+            «inter_predictors» = padded 62 (q ∷ []);
             «intra_encodings» = padded 62 (e ∷ []);
             «inter_encodings» = padded 62 (e ∷ []);
             signs = padded 62 [];
@@ -60,6 +60,10 @@ made n m p e =
       slow = record { n = m; predictors = padded 16 (p ∷ []); encodings = padded 16 (e ∷ []); signs = padded 16 [] };
       numbers = noNumbers;
     }
+
+-- one predictor for all of them
+abbrev made : (items slowItems predictor encoding : ℕ) → Definition
+made n m p e = madeOf n m p p e
 
 -- ## Walks
 

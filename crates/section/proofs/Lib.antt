@@ -1,4 +1,5 @@
 pub mod Admitted
+pub mod Alike
 pub mod Checks
 pub mod Effects
 pub mod Filling

@@ -21,7 +21,8 @@ use Rattle.section.specs.Fits.{Fits}
 use Rattle.section.specs.Refusals.{admitted}
 use Rattle.section.specs.Walk.{Outcome, settled, over, tick}
 use Rattle.section.proofs.Admitted.{admitted-place, admitted-fits}
-use Rattle.section.proofs.Stays.{isGoing, tick-going, over-lasts}
+use Rattle.section.proofs.Alike.{isGoing}
+use Rattle.section.proofs.Stays.{tick-going, over-lasts}
 
 -- ## A look from an admitted walk
 

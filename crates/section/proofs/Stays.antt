@@ -29,6 +29,7 @@ use Rattle.section.specs.Refusals.{cuts, partsOf, admitted}
 use Rattle.section.specs.Tally.{placeAfter, endedBy, endingAfter, partOf, oneMore, countsAfter, trialsAfter, tallyAfter}
 use Rattle.section.specs.Walk.{start, historyWith, historyAfter, settled, over, ifGoing, tick}
 use Rattle.section.proofs.Admitted.{admits, admitted-place, admitted-few, admitted-sum, admitted-history, admitted-sound}
+use Rattle.section.proofs.Alike.{isGoing}
 
 -- ## The tally
 
@@ -47,7 +48,7 @@ more-total (a ∷ b ∷ c ∷ e ∷ l) (suc (suc zero)) four h = omega arith
 more-total (a ∷ b ∷ c ∷ e ∷ l) (suc (suc (suc zero))) four h = omega arith
 more-total (a ∷ b ∷ c ∷ e ∷ l) (suc (suc (suc (suc i)))) four h = absurd (omega arith)
 
-part-below : (f : Found) → partOf f < 4
+pub part-below : (f : Found) → partOf f < 4
 unfolding partOf
 part-below (Event e) = omega arith
 part-below Intra = omega arith
@@ -164,12 +165,6 @@ module _ (d : Definition) (l : Look) (z : ℕ) (w : Walk) where
       (history-after d (l .seen) (l .raw) (w .history) (admitted-history d z w h)) four
 
 -- ## One look, going on or not
-
-abbrev pub isGoing : Ending → Bool
-isGoing Going = true
-isGoing Done = false
-isGoing Out = false
-isGoing (Cut k p) = false
 
 module _ (d : Definition) (s : List ℕ) (w : Walk) where
   -- what the look of a walk that goes on sees

@@ -4,6 +4,8 @@ use mathlib.Core.Bool.{Bool, true, false}
 use mathlib.Core.List.{List, [], _∷_}
 use mathlib.Core.Path.{_≡_}
 use lib.Seq.{sets}
+use Rattle.plan.specs.declared.Definition.{Definition}
+use Rattle.plan.specs.Plan.{fields}
 use Rattle.reader.specs.Search.{byteOf}
 use Rattle.section.specs.declared.Answer.{Answer}
 use Rattle.section.specs.declared.Answer.the-variants.{Passed, Rejected, Event, Intra, Inter, Slow, Over, Refused}
@@ -55,6 +57,17 @@ isOver (Inter x) = false
 isOver (Slow x) = false
 isOver (Over e) = true
 isOver (Refused why) = true
+
+-- how many fields an answer hands out
+unfoldable pub handsOut : Definition → Answer → ℕ
+handsOut d Passed = 0
+handsOut d (Rejected k p) = 0
+handsOut d (Event x) = 0
+handsOut d (Intra x) = fields (d .main)
+handsOut d (Inter x) = fields (d .main)
+handsOut d (Slow x) = d .slow .n
+handsOut d (Over e) = 0
+handsOut d (Refused why) = 0
 
 -- all that a call gives: what it says, the trials so far, the walk, and the lent buffer's content
 pub record Told : Type 0 where

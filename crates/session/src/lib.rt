@@ -1,7 +1,10 @@
 // A log's session as document 01 prints it: the frames that a walk through its section finds, or why there is none.
 // H lines may have 16,384 bytes and the section 65,536; more is too long.
+ghost use mathlib.Core.Bool.{true};
+ghost use mathlib.Core.Path.{_≡_};
 ghost use Prim.Native.Nat.{_≤_};
 ghost use lib.ListN.{length};
+ghost use Rattle.plan.specs.Sound.{sound};
 use definition::Verdict;
 use header::Header;
 use plan::Definition;
@@ -16,13 +19,17 @@ const HEADER: usize = 16384;
 
 const SECTION: usize = 65536;
 
-// Calls until one is over: a line for each frame, and the last line.
-fn walk(d: Definition, s: &[u8]) {
-    let mut values = [0u32; 62];
+// Calls until one is over: a line for each frame, and the last line. The flag goes from call to call, so that a barren search is made once.
+fn walk(d: Definition, s: &[u8])
+    requires { ⌜ sound d ≡ true ⌝ }
+{
     let mut walk = Walk::start();
+    let mut barren = false;
+    let mut values = [0u32; 62];
     show::text(b"kind at values\n");
     loop {
-        let looked = calls::call(d, walk, s, &mut values);
+        let called = calls::step(d, walk, s, barren, &mut values);
+        let looked = called.looked;
         let answer = looked.answer;
         let next = looked.walk;
         if answer.is_over() {
@@ -31,6 +38,7 @@ fn walk(d: Definition, s: &[u8]) {
         }
         show::frame(d, answer, &values);
         walk = next;
+        barren = called.barren;
     }
 }
 

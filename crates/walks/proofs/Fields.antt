@@ -25,17 +25,39 @@ use Rattle.extent.specs.declared.Seen.the-variants as seen
 use Rattle.section.specs.declared.Answer.{Answer}
 use Rattle.section.specs.declared.Answer.the-variants.{Passed, Rejected, Event, Intra, Inter, Slow, Over, Refused}
 use Rattle.section.specs.declared.Walk.{Walk}
+use Rattle.section.specs.Answers.{handsOut}
+use Rattle.section.specs.Fits.{Rooms}
 use Rattle.section.specs.Walk.{Outcome, answerWith, fieldsWith, answerAfter, fieldsAfter, settled, over, tick}
+use Rattle.section.proofs.Admitted.{sound-rooms, needed-rooms}
 use Rattle.calls.specs.Call.{called}
 use Rattle.walks.specs.declared.Goal.{Goal}
-use Rattle.walks.specs.Reached.{handsOut}
 use Rattle.walks.specs.Walks.{afterCalls, walked}
 use Rattle.walks.proofs.Each.{tick-by, called-by}
 use Rattle.walks.proofs.Walks.{walk-first}
 
 -- as many fields as the answer hands out
-abbrev Full : Definition → Outcome → Type 0
+abbrev pub Full : Definition → Outcome → Type 0
 Full d o = length (o .fields) ≡ handsOut d (o .answer)
+
+-- a buffer with rooms for every field has room for those of an answer
+pub hands-out-rooms : (d : Definition) {room : ℕ} → Rooms d room → (a : Answer) → handsOut d a ≤ room
+unfolding handsOut
+hands-out-rooms d rooms Passed = omega arith
+hands-out-rooms d rooms (Rejected k p) = omega arith
+hands-out-rooms d rooms (Event x) = omega arith
+hands-out-rooms d rooms (Intra x) = rooms .main-out
+hands-out-rooms d rooms (Inter x) = rooms .main-out
+hands-out-rooms d rooms (Slow x) = rooms .slow-out
+hands-out-rooms d rooms (Over e) = omega arith
+hands-out-rooms d rooms (Refused why) = omega arith
+
+-- a buffer with room for the fields that they were put into begins with them
+pub begins-with : (d : Definition) (o : Outcome) (buf : List ℕ) → Full d o → handsOut d (o .answer) ≤ length buf
+    → take (handsOut d (o .answer)) (sets buf 0 (o .fields)) ≡ o .fields
+begins-with d o buf full rooms =
+    let vs = o .fields in
+    let fits : 0 + length vs ≤ length buf = omega arith in
+    rw (← full) (ap (take (length vs)) (sets-eq vs buf 0 fits) ∙ take-append-seam vs (drop (0 + length vs) buf))
 
 -- values in their rooms, cut at a count
 front-full : (n : ℕ) (vs : List ℕ) → n ≤ 62 → length (take n (padded 62 vs)) ≡ n
@@ -49,15 +71,7 @@ module _ (d : Definition) (h : sound d ≡ true) where
   slow-few = omega (arith, slow-fields (d .slow) (d .numbers) (sound-slow d h))
 
   pub hands-out-few : (a : Answer) → handsOut d a ≤ 62
-  unfolding handsOut
-  hands-out-few Passed = omega arith
-  hands-out-few (Rejected k p) = omega arith
-  hands-out-few (Event x) = omega arith
-  hands-out-few (Intra x) = main-few
-  hands-out-few (Inter x) = main-few
-  hands-out-few (Slow x) = slow-few
-  hands-out-few (Over e) = omega arith
-  hands-out-few (Refused why) = omega arith
+  hands-out-few = hands-out-rooms d (sound-rooms d h (needed-rooms d h))
 
   with-full : (f : Found) (p : ℕ) (x : Raw) (y : History) → length (fieldsWith d f x y) ≡ handsOut d (answerWith d f p x y)
   unfolding fieldsWith answerWith handsOut intraFrame interFrame slowValues
@@ -84,7 +98,7 @@ module _ (d : Definition) (h : sound d ≡ true) where
   unfolding over handsOut
   over-full w = refl
 
-  tick-full : (s : List ℕ) (w : Walk) → Full d (tick d s w)
+  pub tick-full : (s : List ℕ) (w : Walk) → Full d (tick d s w)
   tick-full s w = tick-by d s (Full d) w (λ l. settled-full l (length s) w) (λ _. over-full w)
 
   pub called-full : (s : List ℕ) (w : Walk) → length (called d s w .fields) ≡ handsOut d (called d s w .answer)
@@ -93,14 +107,9 @@ module _ (d : Definition) (h : sound d ≡ true) where
   pub walked-full : (goal : Goal) (s : List ℕ) (w : Walk) → length (walked goal d s w .fields) ≡ handsOut d (walked goal d s w .answer)
   walked-full goal s w = let f = walk-first goal d s w in rw (f .is) (called-full s (afterCalls (f .n) d s w))
 
-  -- a buffer with room for the fields that they were put into begins with them
   pub buffer-begins : (s : List ℕ) (w : Walk) (buf : List ℕ) → handsOut d (called d s w .answer) ≤ length buf
       → take (handsOut d (called d s w .answer)) (sets buf 0 (called d s w .fields)) ≡ called d s w .fields
-  buffer-begins s w buf rooms =
-      let vs = called d s w .fields in
-      let full = called-full s w in
-      let fits : 0 + length vs ≤ length buf = omega arith in
-      rw (← full) (ap (take (length vs)) (sets-eq vs buf 0 fits) ∙ take-append-seam vs (drop (0 + length vs) buf))
+  buffer-begins s w buf = begins-with d (called d s w) buf (called-full s w)
 
 -- a buffer of no places takes none
 pub sets-none : (i : ℕ) (vs : List ℕ) → sets [] i vs ≡ []

@@ -29,9 +29,9 @@ use Rattle.section.specs.Walk.{Outcome, start, answerWith, answerAfter, settled
 use Rattle.section.specs.Answers.{Told, checkedFirst, handed, isOver, refusing, told}
 use Rattle.section.specs.Refusals.{checked}
 use Rattle.section.proofs.Paper.{paper-injective}
-use Rattle.calls.specs.Call.{says, isSaid, called}
+use Rattle.calls.specs.Call.{after, says, isSaid, called}
 use Rattle.calls.proofs.Ticks.{tick-moves, tick-end}
-use Rattle.calls.proofs.Until.{until-by}
+use Rattle.calls.proofs.Until.{after-suc, until-by}
 use Rattle.walks.specs.declared.Goal.the-variants.{Frame}
 use Rattle.walks.specs.declared.Sort.{Sort}
 use Rattle.walks.specs.declared.Sort.the-variants as sort
@@ -130,11 +130,6 @@ module _ (d : Definition) (s : List ℕ) (of : Sort) where
 
 -- ## A walk
 
-after-next : (n : ℕ) (d : Definition) (s : List ℕ) (w : Walk) → afterCalls (suc n) d s w ≡ called d s (afterCalls n d s w) .walk
-unfolding afterCalls
-after-next zero d s w = refl
-after-next (suc n) d s w = after-next n d s (called d s w .walk)
-
 second-false : (a b : Bool) → (a || b) ≡ false → b ≡ false
 second-false true b e = absurd (true≢false e)
 second-false false b e = e
@@ -154,9 +149,9 @@ module _ (d : Definition) (s : List ℕ) (of : Sort) (k : ℕ) where
 
   module _ (w : Walk) (few : countOf of w ≤ k) where
     few-before : (n : ℕ) → ((j : ℕ) → j < n → isLast (Frame of k) (called d s (afterCalls j d s w)) ≡ false) → countOf of (afterCalls n d s w) ≤ k
-    unfolding afterCalls
+    unfolding after
     few-before zero before = few
-    few-before (suc n) before = rw (after-next n d s w) (not-yet (called d s (afterCalls n d s w)) (before n (omega arith)))
+    few-before (suc n) before = rw (after-suc (called d s) n w) (not-yet (called d s (afterCalls n d s w)) (before n (omega arith)))
 
     -- it has counted k and one more of the sort, and its answer is of it
     pub kth-frame : isOver (walked (Frame of k) d s w .answer) ≡ false

@@ -13,7 +13,7 @@ use Rattle.section.specs.declared.Looked.{Looked}
 use Rattle.section.specs.declared.Refusal.{Refusal}
 use Rattle.section.specs.declared.Refusal.the-variants.{Unsound}
 use Rattle.section.specs.declared.Walk.{Walk}
-use Rattle.section.specs.Answers.{handed, checkedFirst}
+use Rattle.section.specs.Answers.{handed, checkedFirst, handsOut}
 use Rattle.section.specs.Owes.{RefusedOwes}
 use Rattle.section.specs.Refusals.{admitted, checked}
 use Rattle.section.specs.Walk.{start}
@@ -22,7 +22,7 @@ use Rattle.walks.specs.declared.Goal.the-variants.{End, Frame}
 use Rattle.walks.specs.declared.Reached.{Reached}
 use Rattle.walks.specs.declared.Sort.{Sort}
 use Rattle.walks.specs.Owes.{ThroughOwes, CountOwes, FillOwes}
-use Rattle.walks.specs.Reached.{handsOut, Reaches}
+use Rattle.walks.specs.Reached.{Reaches}
 use Rattle.walks.specs.Walks.{countsOf, walked, checkedState, throughOf, filledOf}
 use Rattle.walks.proofs.Fields.{hands-out-few}
 

@@ -1,5 +1,5 @@
 -- A whole walk: calls until one is over; the frames that it counts; the k-th frame of a sort (document 01, "Module order", the database host).
-use Prim.Native.Nat.{ℕ, zero, suc}
+use Prim.Native.Nat.{ℕ}
 use mathlib.Core.Bool.{Bool, false, cond, _||_}
 use mathlib.Core.List.{List, []}
 use lib.Dec.{ltb}
@@ -13,7 +13,7 @@ use Rattle.section.specs.declared.Walk.{Walk}
 use Rattle.section.specs.Answers.{Paper, Told, checkedFirst, isOver}
 use Rattle.section.specs.Refusals.{admitted, checked}
 use Rattle.section.specs.Walk.{Outcome, start}
-use Rattle.calls.specs.Call.{until, left, called}
+use Rattle.calls.specs.Call.{after, until, left, called}
 use Rattle.walks.specs.declared.Sort.{Sort}
 use Rattle.walks.specs.declared.Sort.the-variants as sort
 use Rattle.walks.specs.declared.Goal.{Goal}
@@ -33,9 +33,8 @@ unfoldable pub isLast : Goal → Outcome → Bool
 isLast goal o = isOver (o .answer) || isReached goal (o .walk .tally)
 
 -- the walk behind n calls
-unfoldable pub afterCalls : (n : ℕ) → Definition → List ℕ → Walk → Walk
-afterCalls zero d s w = w
-afterCalls (suc n) d s w = afterCalls n d s (called d s w .walk)
+abbrev pub afterCalls : (n : ℕ) → Definition → List ℕ → Walk → Walk
+afterCalls n d s w = after (called d s) n w
 
 -- CALLS UNTIL ONE IS OVER, or a goal is reached: every call that accepts a frame goes on by a byte or more
 unfoldable pub walked : Goal → Definition → List ℕ → Walk → Outcome

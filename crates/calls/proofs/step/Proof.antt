@@ -2,7 +2,7 @@
 -- and a flag that is right.
 use mathlib.Core.Path.{ap}
 use borrow.Author.Needs.{needs}
-use Rattle.section.proofs.Stays.{isGoing}
+use Rattle.section.proofs.Alike.{isGoing}
 use Rattle.calls.proofs.Loop.{ended-steps}
 use Rattle.calls.proofs.step.Statement.{statement}
 use Rattle.calls.proofs.step.Tie as tie

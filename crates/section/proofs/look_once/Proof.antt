@@ -1,9 +1,9 @@
 -- `section::look_once` meets its contract: a walk that goes on looks, and one that has ended stays. Assumes an admitted walk and rooms for every field.
 use mathlib.Core.Path.{ap}
 use borrow.Author.Needs.{needs}
+use Rattle.section.proofs.Alike.{isGoing}
 use Rattle.section.proofs.Looks.{once-fits, once-going, once-over}
 use Rattle.section.proofs.Rooms.{walk-counts}
-use Rattle.section.proofs.Stays.{isGoing}
 use Rattle.section.proofs.look_once.Statement.{statement}
 use Rattle.section.proofs.look_once.Tie as tie
 

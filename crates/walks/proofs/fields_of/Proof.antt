@@ -1,7 +1,7 @@
 -- `walks::fields_of` meets its contract: an arm for each answer. Assumes nothing.
 use mathlib.Core.Path.{sym, ap, _∙_}
 use borrow.Author.Needs.{needs}
-use Rattle.walks.specs.Reached.{handsOut}
+use Rattle.section.specs.Answers.{handsOut}
 use Rattle.walks.proofs.fields_of.Statement.{statement}
 use Rattle.walks.proofs.fields_of.Tie as tie
 

@@ -5,7 +5,8 @@ use borrow.Author.Needs.{needs}
 use lib.ListN.{length}
 use Rattle.section.proofs.Rooms.{walk-counts}
 use Rattle.calls.specs.Call.{left}
-use Rattle.walks.proofs.Turns.{Turn, turn-first, turn-rooms, turn-again, turn-less, turn-last}
+use Rattle.calls.proofs.Turns.{ready-rooms}
+use Rattle.walks.proofs.Turns.{Turn, turn-first, turn-again, turn-less, turn-last}
 use Rattle.walks.proofs.walk_to.Statement.{statement}
 use Rattle.walks.proofs.walk_to.Tie as tie
 
@@ -23,7 +24,7 @@ walk-to-spec =
     μ-loop
     (λ c. (turn-first _ _ _ _ (c .before .pre) (walk-counts (c .before .args .w) (c .before .good .1 .0)), search needs))
     (λ c. search needs)
-    (λ c κs. ((c .before .loop .inv .0 .kept .so, turn-rooms _ _ _ (c .before .loop .inv .0) (search needs)), c .before .loop .inv .0 .right))
+    (λ c κs. let t = c .before .loop .inv .0 .ready in ((t .kept .so, ready-rooms _ _ t (search needs)), t .right))
     (λ c κs. search needs)
     (λ c.
     let b = c .before .before .before .before .before in

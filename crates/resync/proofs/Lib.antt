@@ -1,0 +1,11 @@
+pub mod Answers
+pub mod Level
+pub mod Both
+pub mod InStep
+pub mod Later
+pub mod Bytes
+pub mod Resync
+pub mod Promised
+pub mod Through
+pub mod Public
+pub mod Frames
