@@ -1,5 +1,8 @@
-"""Numbers as a section holds them, for making cases: the other way round from decoders.py. Raw numbers are 32-bit patterns."""
+"""Numbers as a section holds them, for making cases: the other way round from decoders.py. Raw numbers are 32-bit patterns. And how much room cases have."""
 import frames
+
+# The most bytes that a program reads; walk alone reads more.
+ROOM = 65536
 
 # Patterns at the ends of the 32-bit types, and near.
 EDGES = (0, 1, 2, 2**31 - 2, 2**31 - 1, 2**31, 2**31 + 1, 2**32 - 2, 2**32 - 1)
@@ -71,6 +74,17 @@ def tagged_16(rng, raws):
         packed += format(value % 2**bits, f"0{bits}b") if bits else ""
     packed += "0" * (-len(packed) % 8)
     return bytes([head]) + bytes(int(packed[at : at + 8], 2) for at in range(0, len(packed), 8))
+
+
+def size_7(head):
+    """The bytes of a reading of encoding 7, its head included, from the lengths of its parts."""
+    pairs = [head % 4, head // 4 % 4, head // 16 % 4]
+    return [1, 2, 3, 1 + sum(1 + p for p in pairs)][head // 64]
+
+
+def size_8(head):
+    halves = sum((0, 1, 2, 4)[head // 4**k % 4] for k in range(4))
+    return 1 + -(-halves // 2)
 
 
 def group(rng, encoding, raws):

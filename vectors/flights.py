@@ -1,4 +1,4 @@
-"""Logs for oracle_walk.py: flights under any definition, whole and damaged, sections of a few bytes in every order, the largest sections, and logs at the limits."""
+"""Logs for oracle_walk.py and rereads.py: flights under any definition, whole and damaged, sections of a few bytes in every order, the largest sections, and logs at the limits."""
 import itertools
 
 import oracle_frames

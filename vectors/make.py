@@ -1,5 +1,5 @@
 #!/usr/bin/env python3
-"""Writes the tables of crates/numbers, crates/lists, crates/frames and crates/replay, the stdin and the stdout of each.
+"""Writes the tables of crates/numbers, crates/lists, crates/frames and crates/replay and the log of crates/reread, the stdin and the stdout of each.
 
 make.py            write the files
 make.py --check    compare them with what would be written, and the answers recorded from the Rust with those here
@@ -16,10 +16,11 @@ import frame_cases
 import frames
 import list_cases
 import lists
+import rereads
 import sections
 import walk_cases
 import walks
-from encoders import seven
+from encoders import ROOM, seven, size_7, size_8
 
 HERE = Path(__file__).resolve().parent
 TOP = HERE.parent
@@ -28,8 +29,6 @@ SHAPES = TOP / "oracle" / "shapes.txt"
 RECORDED = HERE / "oracle-answers.txt"
 RECORDED_LISTS = HERE / "oracle-lists.txt"
 
-# The program reads no more.
-ROOM = 65536
 SECTION = 256
 LARGEST = 2**64 - 1
 
@@ -247,17 +246,6 @@ def table(rng):
     return lines
 
 
-def size_7(head):
-    """The bytes of a reading of encoding 7, its head included, from the lengths of its parts."""
-    pairs = [head % 4, head // 4 % 4, head // 16 % 4]
-    return [1, 2, 3, 1 + sum(1 + p for p in pairs)][head // 64]
-
-
-def size_8(head):
-    halves = sum((0, 1, 2, 4)[head // 4**k % 4] for k in range(4))
-    return 1 + -(-halves // 2)
-
-
 def whole(rng, reader, head, size):
     """A reading of a head with any bytes behind it: some places have bytes before, some after."""
     lead = rng.randbytes(head % 3)
@@ -338,6 +326,12 @@ def files(crate, lines, answered):
     return made
 
 
+def reread_files():
+    """The log of the program reread, and what it prints of it."""
+    log = rereads.stored()
+    return {CRATES / "reread" / "stdin": log.decode("latin-1"), CRATES / "reread" / "stdout": "".join(line + "\n" for line in rereads.printed(log))}
+
+
 def answers_of(path):
     """The Rust's recorded answers: what was asked, the answer, and whether it is known to differ here."""
     differs = False
@@ -376,7 +370,7 @@ def replay():
 def main():
     number_lines, list_lines, frame_lines, walk_lines = numbers_table(), lists_table(), frames_table(), walks_table()
     made = files("numbers", number_lines, answered) | files("lists", list_lines, lists.answered)
-    made |= files("frames", frame_lines, frames.answered) | files("replay", walk_lines, walks.answered)
+    made |= files("frames", frame_lines, frames.answered) | files("replay", walk_lines, walks.answered) | reread_files()
     counted = f"{count(number_lines)} vectors of numbers, {count(list_lines)} of lists, {count(frame_lines)} of frames and {count(walk_lines)} of walks"
     if sys.argv[1:] == ["--check"]:
         for path, text in made.items():

@@ -19,8 +19,7 @@ import sys
 sys.dont_write_bytecode = True
 
 import decoders
-from encoders import seven
-from make import ROOM, size_7, size_8
+from encoders import ROOM, seven, size_7, size_8
 
 GROUPS = [(1, 0), (0, 0), (3, 0), *((6, n) for n in range(1, 9)), (7, 0), (8, 0)]
 

@@ -103,6 +103,10 @@ pub record Answer : Type 0 where
 abbrev pub told : Defined → Answer
 told r = record { finding = found (r .verdict); definition = r .definition }
 
+-- every loop iteration is logged: 1/1
+abbrev pub everyLoop : FrameInterval
+everyLoop = record { numerator = 1; denominator = 1 }
+
 unfoldable pub defined : List ℕ → Lists → Numbers → FrameInterval → Answer
 defined text l numbers interval =
     record {

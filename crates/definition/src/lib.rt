@@ -3,7 +3,9 @@
 ghost use mathlib.Core.Bool.{not, _&&_};
 ghost use mathlib.Core.Path.{_≡_};
 ghost use lib.Dec.{eqb};
+ghost use Rattle.plan.specs.Plan.{noNumbers};
 ghost use Rattle.definition.specs.Checks.{found, check};
+ghost use Rattle.definition.specs.Defined.{everyLoop};
 ghost use Rattle.definition.specs.Owes.{PaperOwes, DefineOwes};
 
 mod checks;
@@ -15,6 +17,7 @@ use items::Lists;
 use items::Row;
 use plan::Definition;
 use plan::FrameInterval;
+use plan::HeaderNumber;
 use plan::Main;
 use plan::Numbers;
 use plan::Slow;
@@ -134,4 +137,20 @@ pub fn define(text: &[u8], lists: Lists, numbers: Numbers, interval: FrameInterv
             }
         }
     }
+}
+
+// The lists alone, with no header numbers and an interval of 1/1: what document 01's program takes of a log.
+pub fn define_plainly(text: &[u8], lists: Lists) -> Defined
+    ensures { λ r. ⌜ DefineOwes (now (text .entry)) lists noNumbers everyLoop r ⌝ }
+{
+    let numbers = Numbers {
+        min_throttle: HeaderNumber::Absent,
+        vbat_reference: HeaderNumber::Absent,
+        min_motor: HeaderNumber::Absent,
+    };
+    let interval = FrameInterval {
+        numerator: 1,
+        denominator: 1,
+    };
+    define(text, lists, numbers, interval)
 }

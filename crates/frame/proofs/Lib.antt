@@ -1,6 +1,8 @@
 pub mod Bodies
+pub mod ByLists
 pub mod Ends
 pub mod Histories
+pub mod Lists
 pub mod Loop
 pub mod Moved
 pub mod One

@@ -5,9 +5,12 @@ use mathlib.Core.Option.{none}
 use mathlib.Core.Path.{_≡_}
 use Rattle.plan.specs.declared.Definition.{Definition}
 use Rattle.raws.specs.declared.Raw.{Raw}
+use Rattle.reader.specs.declared.Cursor.{Cursor}
 use Rattle.reader.proofs.One.{one-answer}
+use Rattle.frame.specs.declared.fields.Context.{Context}
+use Rattle.frame.specs.declared.fields.FieldReading.{FieldReading}
 use Rattle.frame.specs.declared.MainFrame.{MainFrame}
-use Rattle.frame.specs.Owes.{AbsentOwes, IntraOwes, InterOwes, SlowOwes}
+use Rattle.frame.specs.Owes.{AbsentOwes, IntraOwes, InterOwes, SlowOwes, ReadFieldsOwes}
 
 pub absent-one : {r t : MainFrame} → AbsentOwes r → AbsentOwes t → r ≡ t
 absent-one = one-answer
@@ -20,3 +23,7 @@ inter-one d last older x = one-answer
 
 pub slow-one : (d : Definition) (x : Raw) {r t : List ℕ} → SlowOwes d x r → SlowOwes d x t → r ≡ t
 slow-one d x = one-answer
+
+pub read-fields-one : (n : ℕ) (es ps : List ℕ) (x : Context) (s : List ℕ) (from : Cursor) {r t : FieldReading}
+    → ReadFieldsOwes n es ps x s from r → ReadFieldsOwes n es ps x s from t → r ≡ t
+read-fields-one n es ps x s from = one-answer

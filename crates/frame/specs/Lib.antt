@@ -1,5 +1,6 @@
 pub mod Earlier
 pub mod Frames
+pub mod Lists
 pub mod Owes
 pub mod Past
 pub mod Time

@@ -3,11 +3,16 @@ use Prim.Native.Nat.{ℕ}
 use mathlib.Core.List.{List}
 use mathlib.Core.Option.{Option}
 use mathlib.Core.Path.{_≡_}
+use lib.ListN.{take}
 use Rattle.plan.specs.declared.Definition.{Definition}
 use Rattle.plan.specs.Plan.{shape, rules}
 use Rattle.raws.specs.declared.Raw.{Raw}
+use Rattle.reader.specs.declared.Cursor.{Cursor}
+use Rattle.frame.specs.declared.fields.Context.{Context}
+use Rattle.frame.specs.declared.fields.FieldReading.{FieldReading}
 use Rattle.frame.specs.declared.MainFrame.{MainFrame}
 use Rattle.frame.specs.Frames.{intraFrame, interFrame, slowValues}
+use Rattle.frame.specs.Lists.{byLists}
 use Rattle.frame.specs.Past.{Body, pastOf, bodyOf, noFrame}
 
 abbrev pub AbsentOwes : MainFrame → Type 0
@@ -22,3 +27,7 @@ InterOwes d last older x r = r ≡ interFrame (shape d) (rules d) (pastOf (bodyO
 
 abbrev pub SlowOwes : Definition → Raw → List ℕ → Type 0
 SlowOwes d x r = r ≡ slowValues (shape d) (rules d) x
+
+-- the first n of 62 encodings and predictors
+abbrev pub ReadFieldsOwes : (n : ℕ) → (encodings predictors : List ℕ) → Context → (section : List ℕ) → Cursor → FieldReading → Type 0
+ReadFieldsOwes n es ps x s from r = r ≡ byLists n (take n es) (take n ps) x s from

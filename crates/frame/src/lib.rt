@@ -14,6 +14,7 @@ use predictor::Before;
 use predictor::Surroundings;
 use raws::Raw;
 
+pub mod fields;
 mod time;
 
 // Whether there is a frame, and of which kind.

@@ -9,6 +9,7 @@ use Rattle.history.specs.Owes.{EmptyOwes, PushedOwes, IsSoundOwes}
 pub empty-one : {r t : History} → EmptyOwes r → EmptyOwes t → r ≡ t
 empty-one = one-answer
 
+-- of `pushed`, `push` and `push_through` alike: each owes the same of the history before, the frame and the history after
 pub pushed-one : (h : History) (f : MainFrame) {r t : History} → PushedOwes h f r → PushedOwes h f t → r ≡ t
 pushed-one h f = one-answer
 

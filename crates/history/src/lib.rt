@@ -1,5 +1,5 @@
 // The two main frames before the next: the Rust's MainFrameHistory, data.rs.
-// Each step takes the history and hands it back.
+// Each step takes the history and hands it back; one thin push takes it by exclusive reference.
 ghost use mathlib.Core.Path.{_≡_};
 ghost use Rattle.history.specs.History.{inOrder};
 ghost use Rattle.history.specs.Owes.{EmptyOwes, PushedOwes, IsSoundOwes};
@@ -58,4 +58,20 @@ impl History {
         let older_mark = older.mark;
         are_in_order(last_mark, older_mark)
     }
+}
+
+// The same behind an exclusive reference: the Rust's push, which also hands back the frame, a reference into the history.
+pub fn push(h: &mut History, frame: MainFrame)
+    ensures { λ _. ⌜ PushedOwes (now (h .entry)) frame (now (h .exit)) ⌝ }
+{
+    *h = History::pushed(*h, frame);
+}
+
+// The history by value again, by way of push: what programs call.
+pub fn push_through(h: History, frame: MainFrame) -> History
+    ensures { λ r. ⌜ PushedOwes h frame r ⌝ }
+{
+    let mut lent = h;
+    push(&mut lent, frame);
+    lent
 }

@@ -1,9 +1,7 @@
 // A case `define LABEL T B M N D LOG`: what a log's header says, and what its lists come to with three header numbers and an interval.
 use crate::LONGEST;
 use crate::show;
-use definition::Defined;
 use definition::Verdict;
-use items::Lists;
 use plan::FrameInterval;
 use plan::HeaderNumber;
 use plan::Numbers;
@@ -27,20 +25,6 @@ fn header_number(word: &[u8]) -> Word {
         return Word::Wrong;
     }
     Word::Is(HeaderNumber::Given(n as u16))
-}
-
-// The definition of lists with no header numbers, and an interval of 1/1.
-pub fn plainly(text: &[u8], lists: Lists) -> Defined {
-    let numbers = Numbers {
-        min_throttle: HeaderNumber::Absent,
-        vbat_reference: HeaderNumber::Absent,
-        min_motor: HeaderNumber::Absent,
-    };
-    let interval = FrameInterval {
-        numerator: 1,
-        denominator: 1,
-    };
-    definition::define(text, lists, numbers, interval)
 }
 
 fn answer(log: &[u8], numbers: Numbers, interval: FrameInterval) {

@@ -1,6 +1,5 @@
 // A case `name LABEL KIND K MAIN SLOW LOG`: the name of a field of a log's definition, asked with two lists of names.
 use crate::LONGEST;
-use crate::define;
 use crate::show;
 use items::Stretch;
 use names::Kind;
@@ -25,7 +24,7 @@ fn kind_of(word: &[u8]) -> Word {
 fn answer<'a>(log: &[u8], kind: Kind, k: usize, main: &'a [u8], slow: &'a [u8]) {
     let header = header::read(log);
     let lists = header.lists;
-    let d = define::plainly(log, lists).definition;
+    let d = definition::define_plainly(log, lists).definition;
     show::name(d, kind, main, slow, k);
     let at = names::name_at(d, kind, main, slow, k);
     if let Stretch::At(start, end) = at {

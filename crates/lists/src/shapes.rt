@@ -2,7 +2,6 @@
 // A shape has a number of items for each of the lists 0 to 5. There is a line for each of lists 0, 1, 2 and in it a character for each of
 // lists 3, 4, 5, the last turning fastest: a dot for lists that pass, else the refusal's number.
 ghost use Prim.Native.Nat.{_<_};
-use crate::define;
 use crate::show;
 use definition::Verdict;
 use items::Lists;
@@ -47,7 +46,7 @@ fn shape(line: usize, column: usize)
         signs: Stretch::Absent,
     };
     let lists = Lists { main, slow };
-    let verdict = define::plainly(text, lists).verdict;
+    let verdict = definition::define_plainly(text, lists).verdict;
     match verdict {
         Verdict::Pass => show::text(b"."),
         Verdict::Refused(why) => show::code(why.paper().number),

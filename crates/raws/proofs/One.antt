@@ -6,7 +6,10 @@ use Rattle.plan.specs.declared.Definition.{Definition}
 use Rattle.reader.specs.declared.Cursor.{Cursor}
 use Rattle.reader.proofs.One.{one-answer}
 use Rattle.raws.specs.declared.Reading.{Reading}
-use Rattle.raws.specs.Owes.{IntraOwes, InterOwes, SlowOwes}
+use Rattle.raws.specs.Owes.{MainFieldsOwes, IntraOwes, InterOwes, SlowOwes}
+
+pub main-fields-one : (n : ℕ) (es s : List ℕ) (from : Cursor) (i t : ℕ) {r r' : Reading} → MainFieldsOwes n es s from i t r → MainFieldsOwes n es s from i t r' → r ≡ r'
+main-fields-one n es s from i t = one-answer
 
 module _ (d : Definition) (s : List ℕ) (from : Cursor) where
   pub intra-one : {r t : Reading} → IntraOwes d s from r → IntraOwes d s from t → r ≡ t

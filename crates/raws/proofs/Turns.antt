@@ -158,7 +158,7 @@ pub held-run : {es s : List ℕ} {from : Cursor} {k t : ℕ} {values : List ℕ}
 held-run {es} {i = i} held count more = let run = run-at es i count more in omega (arith, run .few, run .inside, held .fit, held .room)
 
 -- a section is made of bytes
-bytes-of : (s : List ℕ) → ((j : ℕ) → getD s j 0 < 256) → Bytes s
+pub bytes-of : (s : List ℕ) → ((j : ℕ) → getD s j 0 < 256) → Bytes s
 bytes-of [] h = tt
 bytes-of (b ∷ s) h = (h 0, bytes-of s (λ j. h (suc j)))
 

@@ -6,7 +6,7 @@ ghost use Rattle.plan.specs.Plan.{shape};
 ghost use Rattle.reader.specs.Got.{over};
 ghost use Rattle.reader.specs.Place.{rest};
 ghost use Rattle.raws.specs.Groups.{numbers};
-ghost use Rattle.raws.specs.Owes.{IntraOwes, InterOwes, SlowOwes};
+ghost use Rattle.raws.specs.Owes.{MainFieldsOwes, IntraOwes, InterOwes, SlowOwes};
 ghost use Rattle.raws.specs.Place.{rawAt, stoppedAt};
 ghost use Rattle.raws.specs.Raws.{raw, timed};
 use crate::groups::read_values;
@@ -44,7 +44,7 @@ fn stopped(step: Step) -> Reading
 }
 
 // The first n of 62 fields, behind the numbers before them; no frame has more.
-fn main_fields(
+pub fn main_fields(
     n: usize,
     encodings: [u8; 62],
     s: &[u8],
@@ -52,7 +52,7 @@ fn main_fields(
     iteration: u32,
     time: u32,
 ) -> Reading
-    ensures { λ r. ⌜ r ≡ rawAt from (over (raw iteration time) (numbers (take n encodings) (rest from (now (s .entry))))) ⌝ }
+    ensures { λ r. ⌜ MainFieldsOwes n encodings (now (s .entry)) from iteration time r ⌝ }
 {
     if n < 62 {
         read_values(&encodings[..n], s, from, iteration, time)

@@ -8,9 +8,6 @@ ghost use Rattle.plan.specs.Sound.{sound};
 use definition::Verdict;
 use header::Header;
 use plan::Definition;
-use plan::FrameInterval;
-use plan::HeaderNumber;
-use plan::Numbers;
 use section::Walk;
 
 mod show;
@@ -42,22 +39,13 @@ fn walk(d: Definition, s: &[u8])
     }
 }
 
-// The log's lists are taken with no header numbers and an interval of 1/1. Refused lists are not walked with.
+// Refused lists are not walked with.
 fn defined(log: &[u8], header: Header)
     requires { ⌜ header .section ≤ length (now log) ⌝ }
 {
-    let numbers = Numbers {
-        min_throttle: HeaderNumber::Absent,
-        vbat_reference: HeaderNumber::Absent,
-        min_motor: HeaderNumber::Absent,
-    };
-    let interval = FrameInterval {
-        numerator: 1,
-        denominator: 1,
-    };
     let lists = header.lists;
     let section = header.section;
-    let defined = definition::define(log, lists, numbers, interval);
+    let defined = definition::define_plainly(log, lists);
     let verdict = defined.verdict;
     match verdict {
         Verdict::Pass => walk(defined.definition, &log[section..]),

@@ -1,0 +1,5 @@
+pub mod Callees
+pub mod Gathering
+pub mod Machine
+pub mod One
+pub mod Prefix
