@@ -60,14 +60,14 @@ impl History {
     }
 }
 
-// The same behind an exclusive reference: the Rust's push, which also hands back the frame, a reference into the history.
+// `pushed` behind an exclusive reference: the Rust's push, which also hands back a reference to the frame in the history.
 pub fn push(h: &mut History, frame: MainFrame)
     ensures { λ _. ⌜ PushedOwes (now (h .entry)) frame (now (h .exit)) ⌝ }
 {
     *h = History::pushed(*h, frame);
 }
 
-// The history by value again, by way of push: what programs call.
+// The history by value again, by way of `push`: what programs call.
 pub fn push_through(h: History, frame: MainFrame) -> History
     ensures { λ r. ⌜ PushedOwes h frame r ⌝ }
 {
