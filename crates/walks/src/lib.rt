@@ -5,8 +5,8 @@ ghost use mathlib.Core.Path.{_≡_};
 ghost use Prim.Native.Nat.{_<_};
 ghost use lib.ListN.{length};
 ghost use Rattle.section.specs.Refusals.{admitted};
-ghost use Rattle.section.specs.Answers.{isOver, handsOut};
-ghost use Rattle.walks.specs.Owes.{ThroughOwes, CountOwes, FillOwes};
+ghost use Rattle.section.specs.Answers.{isOver};
+ghost use Rattle.walks.specs.Owes.{ThroughOwes, CountOwes, FieldsOfOwes, FillOwes};
 ghost use Rattle.walks.specs.Reached.{Reaches};
 ghost use Rattle.walks.specs.Walks.{countedAt, isReached};
 use plan::Definition;
@@ -24,7 +24,7 @@ pub enum Sort {
 }
 
 // Where a walk is to stop: at its end, or at a frame of a sort, counted from 0.
-enum Goal {
+pub enum Goal {
     End,
     Frame(Sort, usize),
 }
@@ -116,8 +116,9 @@ pub fn count(d: Definition, s: &[u8]) -> Counted
     Counted { answer, tally }
 }
 
-fn fields_of(d: Definition, answer: Answer) -> usize
-    ensures { λ r. ⌜ r ≡ handsOut d answer ⌝ }
+// How many fields an answer hands out.
+pub fn fields_of(d: Definition, answer: Answer) -> usize
+    ensures { λ r. ⌜ FieldsOfOwes d answer r ⌝ }
 {
     match answer {
         Answer::Passed => 0,

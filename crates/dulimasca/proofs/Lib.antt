@@ -1,0 +1,10 @@
+pub mod Counting
+pub mod Defining
+pub mod Filling
+pub mod Giving
+pub mod Naming
+pub mod Needing
+pub mod One
+pub mod Replying
+pub mod Taken
+pub mod TakenState

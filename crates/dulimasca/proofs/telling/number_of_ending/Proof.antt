@@ -1,0 +1,19 @@
+-- `telling::number_of_ending` meets its contract: an arm for each ending. Assumes nothing.
+use borrow.Author.Needs.{needs}
+use Rattle.section.specs.Answers.{paperOf}
+use Rattle.dulimasca.proofs.telling.number_of_ending.Statement.{statement}
+use Rattle.dulimasca.proofs.telling.number_of_ending.Tie as tie
+
+pub number-of-ending-spec : {M : Type 1} → statement M
+unfolding paperOf
+number-of-ending-spec =
+    tie.close
+    (tie.spec
+    (λ c. search needs)
+    (λ c. search needs)
+    (λ c. search needs)
+    (λ c. search needs)
+    (λ c. search needs)
+    (λ c. search needs)
+    (λ c. search needs)
+    (λ c. search needs))

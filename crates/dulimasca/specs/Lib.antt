@@ -1,0 +1,4 @@
+pub mod Calls
+pub mod Define
+pub mod Owes
+pub mod Told

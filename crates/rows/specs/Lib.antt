@@ -1,0 +1,2 @@
+pub mod Owes
+pub mod Rows

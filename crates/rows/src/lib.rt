@@ -1,0 +1,158 @@
+// Rows: the accepted frames of a walk as bytes of one length, as many as a lent buffer has room for, and the walk behind them.
+// A walk that goes on from there gives the rows that follow, so that a section of any length is imported through a small buffer.
+ghost use mathlib.Core.Bool.{true};
+ghost use mathlib.Core.Path.{_≡_};
+ghost use Prim.Native.Nat.{_+_, _*_, _/_, _≤_};
+ghost use lib.ListN.{length};
+ghost use lib.Seq.{sets};
+ghost use Rattle.section.specs.Refusals.{admitted};
+ghost use Rattle.rows.specs.Owes.{RowLengthOwes, NextOwes};
+ghost use Rattle.rows.specs.Rows.{width, row, rowLength, rowFor, rowBytes, rowsFrom, laid, laidOut};
+use plan::Definition;
+use section::Answer;
+use section::Check;
+use section::Refusal;
+use section::Walk;
+
+// What a row says of a frame: its letter, iteration, place and time, and the values that it shows. What a frame does not have is 0.
+pub struct Row {
+    pub letter: u32,
+    pub iteration: u32,
+    pub place: usize,
+    pub time: u64,
+    pub values: [u32; 62],
+}
+
+// How many rows were laid out, and the walk behind them; or why none was.
+pub struct Laid {
+    pub check: Check,
+    pub count: usize,
+    pub walk: Walk,
+}
+
+// How many values a row has: a place for every field, and for the three numbers of an event.
+fn width(d: Definition) -> usize
+    ensures { λ r. ⌜ (r ≡ width d) × (r ≤ 62) ⌝ }
+{
+    let n = section::refusals::room_needed(d);
+    if n < 3 {
+        return 3;
+    }
+    if 62 < n {
+        return 62;
+    }
+    n
+}
+
+// How many bytes a row takes.
+pub fn row_length(d: Definition) -> usize
+    ensures { λ r. ⌜ RowLengthOwes d r ⌝ }
+{
+    24 + 4 * width(d)
+}
+
+fn row_with(letter: u32, iteration: u32, place: usize, time: u64, values: [u32; 62]) -> Row
+    ensures { λ r. ⌜ r ≡ row letter iteration place time values ⌝ }
+{
+    Row {
+        letter,
+        iteration,
+        place,
+        time,
+        values,
+    }
+}
+
+// An event shows its type and both its numbers in the places of the fields.
+fn row_for(answer: Answer, values: [u32; 62]) -> Row
+    ensures { λ r. ⌜ r ≡ rowFor answer values ⌝ }
+{
+    match answer {
+        Answer::Passed => row_with(0, 0, 0, 0, values),
+        Answer::Rejected(_, _) => row_with(0, 0, 0, 0, values),
+        Answer::Event(x) => {
+            let mut shown = values;
+            shown[0] = x.event.code as u32;
+            shown[1] = x.event.first;
+            shown[2] = x.event.second;
+            row_with(69, 0, x.at, 0, shown)
+        }
+        Answer::Intra(x) => row_with(73, x.iteration, x.at, x.time, values),
+        Answer::Inter(x) => row_with(80, x.iteration, x.at, x.time, values),
+        Answer::Slow(x) => row_with(83, 0, x.at, 0, values),
+        Answer::Over(_) => row_with(0, 0, 0, 0, values),
+        Answer::Refused(_) => row_with(0, 0, 0, 0, values),
+    }
+}
+
+fn put_row(out: &mut [u8], at: usize, n: usize, r: Row)
+    requires { ⌜ (n ≤ 62) × (at + (24 + 4 * n) ≤ length (now out)) ⌝ }
+    ensures { λ _. ⌜ now (out .exit) ≡ sets (now (out .entry)) at (rowBytes n r) ⌝ }
+{
+    bytes::put32(out, at, r.letter);
+    bytes::put32(out, at + 4, r.iteration);
+    bytes::put64(out, at + 8, r.place as u64);
+    bytes::put64(out, at + 16, r.time);
+    let values = r.values;
+    bytes::put_values(out, at + 24, &values[..n]);
+}
+
+// The rows of an admitted walk. The state is checked once, and a barren search is made once.
+fn lay(d: Definition, w: Walk, s: &[u8], out: &mut [u8]) -> Laid
+    requires { ⌜ admitted d (length (now s)) w ≡ true ⌝ }
+    ensures { λ r. ⌜ laid r (now (out .exit)) ≡ laidOut (rowsFrom d (now (s .entry)) (length (now (out .entry)) / rowLength d) w) (now (out .entry)) ⌝ }
+{
+    let n = width(d);
+    let size = row_length(d);
+    let room = out.len() / size;
+    let mut walk = w;
+    let mut barren = false;
+    let mut count: usize = 0;
+    let mut at: usize = 0;
+    while count < room {
+        let mut values = [0u32; 62];
+        let called = calls::step(d, walk, s, barren, &mut values);
+        let looked = called.looked;
+        let answer = looked.answer;
+        let next = looked.walk;
+        if answer.is_over() {
+            return Laid {
+                check: Check::Pass,
+                count,
+                walk: next,
+            };
+        }
+        put_row(out, at, n, row_for(answer, values));
+        walk = next;
+        barren = called.barren;
+        at += size;
+        count += 1;
+    }
+    Laid {
+        check: Check::Pass,
+        count,
+        walk,
+    }
+}
+
+// The next rows of a walk, as many whole ones as the lent buffer has room for; or refusal 10, or 11 with the length of a row.
+pub fn next(d: Definition, w: Walk, s: &[u8], out: &mut [u8]) -> Laid
+    ensures { λ r. ⌜ NextOwes d w (now (s .entry)) (now (out .entry)) r (now (out .exit)) ⌝ }
+{
+    if !section::refusals::admits(d, w, s.len()) {
+        return Laid {
+            check: Check::Refused(Refusal::Unsound),
+            count: 0,
+            walk: w,
+        };
+    }
+    let size = row_length(d);
+    if out.len() < size {
+        return Laid {
+            check: Check::Refused(Refusal::TooShort(size)),
+            count: 0,
+            walk: w,
+        };
+    }
+    lay(d, w, s, out)
+}

@@ -1,0 +1,6 @@
+pub mod Sized
+pub mod Lists
+pub mod Frames
+pub mod Looks
+pub mod Tallies
+pub mod Called

@@ -1,0 +1,28 @@
+// A definition and a walk as bytes of a fixed layout, so that C keeps them between calls in buffers of its own.
+// What comes back is read, not trusted: the layout's version stands first, and codes that stand for nothing are told.
+use plan::Definition;
+use section::Walk;
+
+pub mod def;
+pub mod state;
+
+// The layout's version: bytes with another one are no definition and no walk.
+pub const VERSION: u64 = 1;
+
+// How many bytes a definition takes.
+pub const DEFINITION: usize = 414;
+
+// How many bytes a walk takes.
+pub const STATE: usize = 600;
+
+// What bytes say: a definition, or that they are none; then it has no fields.
+pub struct TakenDefinition {
+    pub is_one: bool,
+    pub definition: Definition,
+}
+
+// What bytes say: a walk, or that they are none; then it is one that has not begun.
+pub struct TakenState {
+    pub is_one: bool,
+    pub walk: Walk,
+}
