@@ -5,7 +5,7 @@
 #include <stdlib.h>
 #include <string.h>
 
-#include "log.h"
+#include "session.h"
 
 void *log_allocate(size_t length)
 {
@@ -15,27 +15,6 @@ void *log_allocate(size_t length)
 void log_release(void *memory)
 {
     free(memory);
-}
-
-static void print_values(const struct log *log, const uint8_t *row, size_t count)
-{
-    for (size_t i = 0; i < count; i++)
-        printf(" %" PRId64, row_value(log, row, i));
-    putchar('\n');
-}
-
-static void print_row(const struct log *log, const uint8_t *row)
-{
-    char letter = row_letter(row);
-    printf("%c %" PRIu64, letter, row_place(row));
-    if (letter == 'E') {
-        print_values(log, row, 1 + event_numbers(row_value(log, row, 0)));
-    } else if (letter == 'S') {
-        print_values(log, row, log->slow_fields);
-    } else {
-        printf(" %" PRIu32 " %" PRIu64, row_iteration(row), row_time(row));
-        print_values(log, row, log->fields);
-    }
 }
 
 /* The same section counted in one call has to end alike, place and counts included. */
@@ -54,7 +33,7 @@ static int import(const struct log *log, struct rows *rows, bool print)
         char letter = row_letter(row);
         seen[letter == 'E' ? 1 : letter == 'S' ? 2 : 0]++;
         if (print)
-            print_row(log, row);
+            print_row(stdout, log, row);
     }
     if (!is_count(log, rows, seen)) {
         fprintf(stderr, "import: the rows and dulimasca_count differ, which cannot be: status %" PRIu64 "\n", rows->status);
@@ -80,14 +59,6 @@ static int import_defined(const struct log *log, bool print)
     return status;
 }
 
-static void print_refusal(const struct log *log)
-{
-    printf("refused %" PRIu64 " %" PRIu64, log->refusal, log->place);
-    if (log->refusal == 3)
-        printf(" %" PRIu64, log->round);
-    putchar('\n');
-}
-
 static int import_file(const char *path, bool print)
 {
     struct log log;
@@ -97,7 +68,7 @@ static int import_file(const char *path, bool print)
         status = import_defined(&log, print);
         break;
     case LOG_REFUSED:
-        print_refusal(&log);
+        print_refusal(stdout, &log);
         status = 1;
         break;
     default:

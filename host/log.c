@@ -233,6 +233,14 @@ enum log_opened log_open(struct log *log, const char *path)
     return loaded == LOG_DEFINED ? define(log) : loaded;
 }
 
+enum log_opened log_define(struct log *log, uint8_t *bytes, size_t length)
+{
+    memset(log, 0, sizeof *log);
+    log->bytes = bytes;
+    log->length = length;
+    return define(log);
+}
+
 void log_close(struct log *log)
 {
     if (log->bytes != NULL)

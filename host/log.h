@@ -1,4 +1,4 @@
-/* A flight log in memory and the rows of its walk: what the example import.c and the SQLite extension flight.c share.
+/* A flight log in memory and the rows of its walk: what the example import.c, the SQLite extension flight.c and the programs of oracle/ and bench/ share.
  * The file is read whole, so that a file which changes later changes no answer. */
 #ifndef LOG_H
 #define LOG_H
@@ -35,6 +35,9 @@ enum log_opened { LOG_DEFINED, LOG_REFUSED, LOG_UNREADABLE, LOG_NO_MEMORY };
 /* Reads and defines a log. Whatever comes out, log_close has to follow. */
 enum log_opened log_open(struct log *log, const char *path);
 void log_close(struct log *log);
+
+/* Defines a log that is in memory already, and stays the caller's: no log_close. */
+enum log_opened log_define(struct log *log, uint8_t *bytes, size_t length);
 
 /* The name of an item, from 0, of the list of a kind (DULIMASCA_MAIN, DULIMASCA_SLOW); empty where there is none. */
 struct stretch log_name(const struct log *log, uint32_t kind, size_t item);
