@@ -1,7 +1,7 @@
 """Numbers as a section holds them, for making cases: the other way round from decoders.py. Raw numbers are 32-bit patterns. And how much room cases have."""
 import frames
 
-# The most bytes that a program reads; walk alone reads more.
+# The most bytes that a program reads; walk and replay alone read more.
 ROOM = 65536
 
 # Patterns at the ends of the 32-bit types, and near.

@@ -26,7 +26,7 @@ REASONS = {
     5: 'MissingField { frame: Intra, field: "time" }',
 }
 
-# The longest text that a case can hold.
+# The longest text that a case of lists can hold.
 TEXT = 2048
 NO_NUMBERS = (None, None, None)
 
@@ -246,13 +246,13 @@ def shapes():
     return "\n".join(text[at : at + 125] for at in range(0, len(text), 125))
 
 
-def unescaped(text):
+def unescaped(text, most=TEXT):
     """The bytes of a text in which \\n, \\r, \\\\ and \\xHH are escapes, or None where it is none or too long."""
     if not re.fullmatch(r"(?:[^\\]|\\[nr\\]|\\x[0-9a-f]{2})*", text, re.DOTALL):
         return None
     letters = {"n": "\n", "r": "\r", "\\": "\\"}
     raw = re.sub(r"\\(?:x(..)|(.))", lambda m: chr(int(m[1], 16)) if m[1] else letters[m[2]], text, flags=re.DOTALL)
-    return None if len(raw) > TEXT else raw.encode("latin-1")
+    return None if len(raw) > most else raw.encode("latin-1")
 
 
 def escaped(text):
@@ -260,15 +260,21 @@ def escaped(text):
     return quoted(text)[1:-1].replace("\\x22", '"')
 
 
+def header_numbers(words):
+    """Minimum throttle, battery reference and minimum motor, or None where one is too large."""
+    numbers = tuple(None if word == "-" else int(word) for word in words)
+    return None if any(number is not None and number >= 2**16 for number in numbers) else numbers
+
+
 def define_words(line):
     """Label, header numbers, interval and log of a case `define`, or None where the line is none."""
     m = re.fullmatch(r"define ([^ ]*) (-|[0-9]+) (-|[0-9]+) (-|[0-9]+) ([0-9]+) ([0-9]+)(?: (.*))?", line, re.DOTALL)
     if not m:
         return None
-    numbers = tuple(None if word == "-" else int(word) for word in m.group(2, 3, 4))
+    numbers = header_numbers(m.group(2, 3, 4))
     interval = int(m[5]), int(m[6])
     log = unescaped(m[7] or "")
-    if log is None or max(interval) >= 2**32 or any(number is not None and number >= 2**16 for number in numbers):
+    if None in (numbers, log) or max(interval) >= 2**32:
         return None
     return m[1], numbers, interval, log
 

@@ -26,6 +26,7 @@ HERE = Path(__file__).resolve().parent
 TOP = HERE.parent
 CRATES = TOP / "crates"
 SHAPES = TOP / "oracle" / "shapes.txt"
+RECORDED_WALKS = TOP / "oracle" / "recorded.in", TOP / "oracle" / "recorded.out"
 RECORDED = HERE / "oracle-answers.txt"
 RECORDED_LISTS = HERE / "oracle-lists.txt"
 
@@ -259,9 +260,13 @@ def hold_to_document(pairs, answered):
             sys.exit(f"make.py: document 01 says {said}, here it is {answered(line)}")
 
 
-def hold_labels(crate, lines, answered, others, word=1):
-    """No two cases have one label; others tells the lines that have none, and word which word is the label."""
-    labels = [line.split(" ")[word] for line in lines if answered(line)[0] not in "#?" and not line.startswith(others)]
+def labels_of(lines, answered, others):
+    """The labels of cases, their second words; others tells the lines that have none."""
+    return [line.split(" ")[1] for line in lines if answered(line)[0] not in "#?" and not line.startswith(others)]
+
+
+def hold_labels(crate, labels):
+    """No two cases have one label."""
     if len(labels) != len(set(labels)):
         sys.exit(f"make.py: two cases of crates/{crate} have one label")
 
@@ -273,7 +278,7 @@ def numbers_table():
 
 def lists_table():
     lines = list_cases.table()
-    hold_labels("lists", lines, lists.answered, "shapes")
+    hold_labels("lists", labels_of(lines, lists.answered, "shapes"))
     for line in lines:
         label, _, answer = lists.answered(line).partition(" = ")
         if list_cases.DOCUMENT.get(label, "") not in answer:
@@ -285,15 +290,15 @@ def lists_table():
 
 def frames_table():
     lines = frame_cases.table()
-    hold_labels("frames", lines, frames.answered, "predict")
+    hold_labels("frames", labels_of(lines, frames.answered, "predict"))
     hold_to_document(frame_cases.DOCUMENT, frames.answered)
     return lines
 
 
 def walks_table():
     lines = walk_cases.table()
-    hold_labels("replay", lines, walks.answered, (), word=0)
-    answers = [walks.answered(line).splitlines() for line in lines]
+    answers = list(walks.answers(lines))
+    hold_labels("replay", [answer[0] for answer in answers if answer and answer[0].startswith("= ")])
     for label, said in walk_cases.DOCUMENT.items():
         if [f"= {label}", *said] not in answers:
             sys.exit(f"make.py: of {label} document 01 says {said}, walks.py says otherwise")
@@ -315,15 +320,44 @@ def hold_pairs():
             sys.exit(f"make.py: examples/{name}.log is not the section that crates/cases/specs/Pairs.antt is about")
 
 
-def files(crate, lines, answered):
+def files(crate, lines, printed, room=ROOM):
     """The two files of a program, a byte a character: its cases and its answers."""
-    made = {
-        CRATES / crate / "stdin": "".join(line + "\n" for line in lines),
-        CRATES / crate / "stdout": "".join(answered(line) + "\n" for line in lines),
-    }
-    if len(made[CRATES / crate / "stdin"]) > ROOM:
+    made = {CRATES / crate / "stdin": ended(lines), CRATES / crate / "stdout": ended(printed)}
+    if len(made[CRATES / crate / "stdin"]) > room:
         sys.exit(f"make.py: the program {crate} has no room for its table")
     return made
+
+
+def ended(lines):
+    return "".join(line + "\n" for line in lines)
+
+
+def recorded_walks():
+    """The lines of replay that are recorded with the Rust's answers, and the lines that it is to print of them; none where there is no record."""
+    if not all(path.exists() for path in RECORDED_WALKS):
+        return [], []
+    return [path.read_bytes().decode("latin-1").removesuffix("\n").split("\n") for path in RECORDED_WALKS]
+
+
+def replay_files(lines):
+    """The table of replay, and behind it what is recorded, to which no line `lists` of the table may reach."""
+    asked, said = recorded_walks()
+    printed = [line for answer in walks.answers(lines) for line in answer]
+    return files("replay", [*lines, "lists - - -", *asked], printed + said, walks.INPUT_MOST)
+
+
+def hold_walks():
+    """Holds walks.py to the recorded walks, and counts them."""
+    asked, said = recorded_walks()
+    at = counted = 0
+    for line, answer in zip(asked, walks.answers(asked)):
+        if said[at : at + len(answer)] != answer:
+            sys.exit(f"make.py: for {line} recorded.out has {said[at : at + len(answer)]}, walks.py says {answer}")
+        at += len(answer)
+        counted += bool(answer) and answer[0].startswith("= ")
+    if at != len(said):
+        sys.exit("make.py: recorded.out goes on where recorded.in has ended")
+    return counted
 
 
 def reread_files():
@@ -369,8 +403,8 @@ def replay():
 
 def main():
     number_lines, list_lines, frame_lines, walk_lines = numbers_table(), lists_table(), frames_table(), walks_table()
-    made = files("numbers", number_lines, answered) | files("lists", list_lines, lists.answered)
-    made |= files("frames", frame_lines, frames.answered) | files("replay", walk_lines, walks.answered) | reread_files()
+    made = files("numbers", number_lines, map(answered, number_lines)) | files("lists", list_lines, map(lists.answered, list_lines))
+    made |= files("frames", frame_lines, map(frames.answered, frame_lines)) | replay_files(walk_lines) | reread_files()
     counted = f"{count(number_lines)} vectors of numbers, {count(list_lines)} of lists, {count(frame_lines)} of frames and {count(walk_lines)} of walks"
     if sys.argv[1:] == ["--check"]:
         for path, text in made.items():
@@ -378,7 +412,7 @@ def main():
                 sys.exit(f"make.py: {path.relative_to(TOP)} is not what make.py writes")
         hold_pairs()
         equal, different = replay()
-        print(f"make.py: {counted} as stored; of the Rust's answers {equal} equal, {different} different as recorded")
+        print(f"make.py: {counted} as stored; of the Rust's answers {equal} equal, {different} different as recorded; {hold_walks()} recorded walks equal")
     elif not sys.argv[1:]:
         for path, text in made.items():
             path.parent.mkdir(exist_ok=True)
@@ -389,7 +423,7 @@ def main():
 
 
 def count(lines):
-    return sum(not line.startswith("#") for line in lines)
+    return sum(not line.startswith(("#", "lists ")) for line in lines)
 
 
 if __name__ == "__main__":

@@ -12,13 +12,14 @@ import sys
 
 sys.dont_write_bytecode = True
 
+import damages
 import decoders
-import flights
 import frames
 import lists
 import walk_cases
 import walks
 from encoders import ROOM
+from oracle_frames import any_definition, any_section, log as log_of
 
 # What stands before the fields.
 HEADS = {"I": [decoders.variable] * 2, "P": [decoders.variable_signed]}
@@ -63,12 +64,12 @@ def stored():
     """The log that the program is tested on: frames of every encoding and of every predictor that needs no header number but 7, damaged here and there."""
     rng = random.Random(7)
     while True:
-        definition = flights.any_definition(rng, (20,), given=(None,), slow_fields=2)
+        definition = any_definition(rng, (20,), given=(None,), slow_fields=2)
         both = [definition.fields(kind) for kind in "IP"]
-        section = b"".join(flights.any_section(rng, definition, "IPPPS") for _ in range(12))
+        section = b"".join(any_section(rng, definition, "IPPPS") for _ in range(12))
         for _ in range(6):
-            section = flights.damaged(rng, section, kinds=5)
-        log = flights.log(rng, definition, section)
+            section = damages.damaged(rng, section, kinds=5)
+        log = log_of(rng, definition, section)
         encodings = {code for fields in both for code in fields.encodings}
         predictors = {code for fields in both for code in fields.predictors}
         if len(encodings) == 7 and predictors >= {0, 1, 2, 3, 5, 6, 8, 10}:
@@ -81,7 +82,7 @@ def run():
     options.add_argument("--cases", type=int, default=1000)
     options.add_argument("--seed", type=int, default=1)
     asked = options.parse_args()
-    rng, made = random.Random(asked.seed), (flights.without_e_and_s, flights.with_any_bytes, flights.short_groups)
+    rng, made = random.Random(asked.seed), (damages.without_e_and_s, damages.with_any_bytes, damages.short_groups)
     logs = [stored(), *walk_cases.logs(), *(log for kind in made for log in kind(rng, asked.cases))]
     logs = [log for log in logs if len(log) <= ROOM]
     read = 0

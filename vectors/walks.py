@@ -139,15 +139,15 @@ def columns(rows, count):
     return list(zip(*rows)) or [()] * count
 
 
-def defined(log):
-    """The definition that a log's lists make with no header numbers, and which fields are signed by the kind of frame."""
-    main, slow = lists.define(log)
+def defined(log, numbers=lists.NO_NUMBERS):
+    """The definition that a log's lists make with header numbers, and which fields are signed by the kind of frame."""
+    main, slow = lists.define(log, numbers)
     names, p, q, e, f, signs = columns(main[2:], 6)
     _, slow_p, slow_e, slow_signs = columns(slow, 4)
     encodings, predictors = ([list(map(int, codes)) for codes in kinds] for kinds in ((e, f, slow_e), (p, q, slow_p)))
     motor = names.index(b"motor[0]") if b"motor[0]" in names else None
     main_signed, slow_signed = ([lists.sign(item) == "s" for item in items] for items in (signs, slow_signs))
-    return sections.define(encodings, predictors, motor, lists.NO_NUMBERS), {"I": main_signed, "P": main_signed, "S": slow_signed}
+    return sections.define(encodings, predictors, motor, numbers), {"I": main_signed, "P": main_signed, "S": slow_signed}
 
 
 def line(trial, signed):
@@ -185,12 +185,12 @@ def too_long(log):
     return len(log) - len(section) > HEADER_MOST or len(section) > SECTION_MOST
 
 
-def printed(log):
-    """The lines that the program prints of a log."""
+def printed(log, numbers=lists.NO_NUMBERS):
+    """The lines that the program prints of a log; only replay has header numbers."""
     if too_long(log):
         return ["too long"]
     try:
-        definition, signed = defined(log)
+        definition, signed = defined(log, numbers)
     except lists.Refused as refused:
         return [str(refused)]
     return shown(*walk(definition, section_of(log)), signed)
@@ -198,22 +198,49 @@ def printed(log):
 
 # What the program replay is asked, and what it prints.
 
+# The most bytes that it reads, and of a log.
+INPUT_MOST = 2**20
+LOG_MOST = 8192
+
+LISTS = re.compile("lists (-|[0-9]+) (-|[0-9]+) (-|[0-9]+)(?: (.*))?", re.DOTALL)
 CASE = re.compile("([^ ]+)(?: (.*))?", re.DOTALL)
 
 
-def words(text):
+class Common(NamedTuple):
+    """What a line `lists` says of the logs behind it: their header numbers, and the bytes that they begin with."""
+
+    numbers: tuple
+    start: bytes
+
+
+NOTHING = Common(lists.NO_NUMBERS, b"")
+
+
+def common_words(text):
+    """What a line `lists` says, or None where it is not written so."""
+    m = LISTS.fullmatch(text)
+    numbers = m and lists.header_numbers(m.group(1, 2, 3))
+    start = m and lists.unescaped(m[4] or "", LOG_MOST)
+    return None if None in (numbers, start) else Common(numbers, start)
+
+
+def words(text, common=NOTHING):
     """Label and log of a case, or None where the line is none."""
     m = CASE.fullmatch(text)
-    log = m and lists.unescaped(m[2] or "")
-    return None if log is None else (m[1], log)
+    rest = m and lists.unescaped(m[2] or "", LOG_MOST - len(common.start))
+    return None if rest is None else (m[1], common.start + rest)
 
 
-def answered(text):
-    """The lines that the program is to write for a line of the table."""
-    if text.startswith("#"):
-        return text
-    case = words(text)
-    if case is None:
-        return "? " + text
-    label, log = case
-    return "\n".join([f"= {label}", *printed(log)])
+def answers(texts):
+    """For each line of a table in turn the lines that the program is to write."""
+    common = NOTHING
+    for text in texts:
+        if text.startswith("#"):
+            yield [text]
+        elif text.split(" ")[0] == "lists":
+            said = common_words(text)
+            yield ["? " + text] if said is None else []
+            common = said or common
+        else:
+            case = words(text, common)
+            yield ["? " + text] if case is None else [f"= {case[0]}", *printed(case[1], common.numbers)]
