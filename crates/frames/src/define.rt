@@ -2,12 +2,12 @@
 ghost use Prim.Native.Nat.{_≤_};
 use crate::parse;
 use crate::parse::Fields;
-use crate::parse::Three;
 use plan::Definition;
 use plan::Main;
 use plan::Numbers;
 use plan::Slow;
 use words::Number;
+use words::three::Three;
 
 // A definition, and whether the words are one. Words that are none give a definition with no fields.
 pub struct Defined {
@@ -76,7 +76,7 @@ pub fn main(is_inter: bool, s: &[u8]) -> Defined {
     let behind_motor = words::behind(behind_predictors);
     let fields = parse::fields_of(words::first(s), words::first(behind_encodings));
     let number = parse::motor(words::first(behind_predictors), fields.n);
-    let three = parse::numbers(behind_motor);
+    let three = words::three::numbers(behind_motor);
     if !fields.are {
         return wrong();
     }
@@ -128,7 +128,7 @@ pub fn slow(s: &[u8]) -> Defined {
     let behind_encodings = words::behind(s);
     let behind_predictors = words::behind(behind_encodings);
     let fields = parse::fields_of(words::first(s), words::first(behind_encodings));
-    let three = parse::numbers(behind_predictors);
+    let three = words::three::numbers(behind_predictors);
     if !fields.are {
         return wrong();
     }

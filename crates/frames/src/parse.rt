@@ -1,23 +1,11 @@
 // The words of a case: numbers, and the encodings and predictors of fields.
 ghost use Prim.Native.Nat.{_≤_};
-use plan::HeaderNumber;
-use plan::Numbers;
 use words::Byte;
 use words::Number;
 
 // A 32-bit pattern.
 pub enum Pattern {
     Is(u32),
-    Wrong,
-}
-
-pub enum Given {
-    Is(HeaderNumber),
-    Wrong,
-}
-
-pub enum Three {
-    Are(Numbers),
     Wrong,
 }
 
@@ -56,48 +44,6 @@ pub fn pattern_of(word: &[u8]) -> Pattern {
         return Pattern::Wrong;
     }
     Pattern::Is(n as u32)
-}
-
-fn header_number(word: &[u8]) -> Given {
-    if check::same(word, b"-") {
-        return Given::Is(HeaderNumber::Absent);
-    }
-    let number = words::decimal(word);
-    let Number::Is(n) = number else {
-        return Given::Wrong;
-    };
-    if 65535 < n {
-        return Given::Wrong;
-    }
-    Given::Is(HeaderNumber::Given(n as u16))
-}
-
-// The header numbers T B M at the start of some words: minimum throttle, battery reference, minimum motor.
-pub fn numbers(s: &[u8]) -> Three {
-    let behind_throttle = words::behind(s);
-    let behind_battery = words::behind(behind_throttle);
-    let throttle = header_number(words::first(s));
-    let battery = header_number(words::first(behind_throttle));
-    let motor = header_number(words::first(behind_battery));
-    let Given::Is(min_throttle) = throttle else {
-        return Three::Wrong;
-    };
-    let Given::Is(vbat_reference) = battery else {
-        return Three::Wrong;
-    };
-    let Given::Is(min_motor) = motor else {
-        return Three::Wrong;
-    };
-    Three::Are(Numbers {
-        min_throttle,
-        vbat_reference,
-        min_motor,
-    })
-}
-
-// What stands behind three words.
-pub fn behind_three(s: &[u8]) -> &[u8] {
-    words::behind(words::behind(words::behind(s)))
 }
 
 // The field named motor[0] of n fields, or n.

@@ -1,11 +1,11 @@
 // A case `predict PREDICTOR ENCODING LAST OLDER RAW SKIPPED MOTOR T B M`: a prediction, and the value that a raw number makes with it.
 use crate::parse;
 use crate::parse::Pattern;
-use crate::parse::Three;
 use crate::show;
 use predictor::Before;
 use predictor::Surroundings;
 use words::Byte;
+use words::three::Three;
 
 // A field of some predictor, and what it had in the frames before.
 struct Field {
@@ -57,7 +57,7 @@ fn answer(line: &[u8], field: Field, raw: u32, around: Surroundings, motor_0: u3
 
 // Each of the next four answers whether the line is a case, and prints nothing where it is not.
 fn with_raw(line: &[u8], field: Field, raw: u32, skipped: u32, motor_0: u32, rest: &[u8]) -> bool {
-    let three = parse::numbers(rest);
+    let three = words::three::numbers(rest);
     let Three::Are(numbers) = three else {
         return false;
     };

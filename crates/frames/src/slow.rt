@@ -1,7 +1,6 @@
 // A case `slow LABEL ENCODINGS PREDICTORS T B M BYTES`: a slow frame, which has no history.
 use crate::LONGEST;
 use crate::define;
-use crate::parse;
 use crate::show;
 use plan::Definition;
 use reader::Cursor;
@@ -26,7 +25,7 @@ pub fn case(rest: &[u8]) -> bool {
     let behind_predictors = words::behind(behind_encodings);
     let defined = define::slow(behind_label);
     let mut space = [0u8; LONGEST];
-    let section = words::section::bytes(parse::behind_three(behind_predictors), &mut space);
+    let section = words::section::bytes(words::three::behind_three(behind_predictors), &mut space);
     if !defined.is {
         return false;
     }

@@ -3,29 +3,10 @@ use crate::LONGEST;
 use crate::show;
 use definition::Verdict;
 use plan::FrameInterval;
-use plan::HeaderNumber;
 use plan::Numbers;
 use words::Number;
 use words::escapes;
-
-enum Word {
-    Is(HeaderNumber),
-    Wrong,
-}
-
-fn header_number(word: &[u8]) -> Word {
-    if check::same(word, b"-") {
-        return Word::Is(HeaderNumber::Absent);
-    }
-    let number = words::decimal(word);
-    let Number::Is(n) = number else {
-        return Word::Wrong;
-    };
-    if 65535 < n {
-        return Word::Wrong;
-    }
-    Word::Is(HeaderNumber::Given(n as u16))
-}
+use words::three::Three;
 
 fn answer(log: &[u8], numbers: Numbers, interval: FrameInterval) {
     let header = header::read(log);
@@ -81,24 +62,9 @@ fn with_numbers(label: &[u8], numbers: Numbers, rest: &[u8]) -> bool {
 pub fn case(rest: &[u8]) -> bool {
     let label = words::first(rest);
     let behind_label = words::behind(rest);
-    let behind_throttle = words::behind(behind_label);
-    let behind_battery = words::behind(behind_throttle);
-    let throttle = header_number(words::first(behind_label));
-    let battery = header_number(words::first(behind_throttle));
-    let motor = header_number(words::first(behind_battery));
-    let Word::Is(min_throttle) = throttle else {
+    let three = words::three::numbers(behind_label);
+    let Three::Are(numbers) = three else {
         return false;
     };
-    let Word::Is(vbat_reference) = battery else {
-        return false;
-    };
-    let Word::Is(min_motor) = motor else {
-        return false;
-    };
-    let numbers = Numbers {
-        min_throttle,
-        vbat_reference,
-        min_motor,
-    };
-    with_numbers(label, numbers, words::behind(behind_battery))
+    with_numbers(label, numbers, words::three::behind_three(behind_label))
 }

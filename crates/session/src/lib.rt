@@ -8,6 +8,8 @@ ghost use Rattle.plan.specs.Sound.{sound};
 use definition::Verdict;
 use header::Header;
 use plan::Definition;
+use plan::FrameInterval;
+use plan::Numbers;
 use section::Walk;
 
 mod show;
@@ -40,12 +42,16 @@ fn walk(d: Definition, s: &[u8])
 }
 
 // Refused lists are not walked with.
-fn defined(log: &[u8], header: Header)
+fn defined(log: &[u8], header: Header, numbers: Numbers)
     requires { ⌜ header .section ≤ length (now log) ⌝ }
 {
     let lists = header.lists;
     let section = header.section;
-    let defined = definition::define_plainly(log, lists);
+    let every = FrameInterval {
+        numerator: 1,
+        denominator: 1,
+    };
+    let defined = definition::define(log, lists, numbers, every);
     let verdict = defined.verdict;
     match verdict {
         Verdict::Pass => walk(defined.definition, &log[section..]),
@@ -53,8 +59,8 @@ fn defined(log: &[u8], header: Header)
     }
 }
 
-// Prints a log's session on standard output.
-pub fn print(log: &[u8]) {
+// Prints a log's session on standard output. The header numbers are given, since document 01 takes none from a log's lines.
+pub fn print_with(log: &[u8], numbers: Numbers) {
     let header = header::read(log);
     if HEADER < header.section {
         show::text(b"too long\n");
@@ -64,5 +70,11 @@ pub fn print(log: &[u8]) {
         show::text(b"too long\n");
         return;
     }
-    defined(log, header);
+    defined(log, header, numbers);
+}
+
+// Prints a log's session with no header numbers.
+pub fn print(log: &[u8]) {
+    let numbers = Definition::nothing().numbers;
+    print_with(log, numbers);
 }

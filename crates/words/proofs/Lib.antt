@@ -7,3 +7,4 @@ pub mod Parting
 pub mod Parts
 pub mod Putting
 pub mod Texts
+pub mod Threes

@@ -7,7 +7,8 @@ use Rattle.words.specs.declared.Byte.{Byte}
 use Rattle.words.specs.declared.Number.{Number}
 use Rattle.words.specs.declared.escapes.Unescaped.{Unescaped}
 use Rattle.words.specs.declared.section.Section.{Section}
-use Rattle.words.specs.Owes.{UntilOwes, FirstOwes, BehindOwes, IsHeadingOwes, DecimalOwes, HexOwes, BytesOwes, UnescapeOwes, WordOwes}
+use Rattle.words.specs.declared.three.Three.{Three}
+use Rattle.words.specs.Owes.{UntilOwes, FirstOwes, BehindOwes, IsHeadingOwes, DecimalOwes, HexOwes, BytesOwes, UnescapeOwes, WordOwes, NumbersOwes, BehindThreeOwes}
 
 -- a promise is one equation to a definition
 one-answer : {A : Type 0} {x r t : A} → r ≡ x → t ≡ x → r ≡ t
@@ -30,6 +31,12 @@ decimal-one s = one-answer
 
 pub hex-one : (high low : ℕ) {r t : Byte} → HexOwes high low r → HexOwes high low t → r ≡ t
 hex-one high low = one-answer
+
+pub numbers-one : (s : List ℕ) {r t : Three} → NumbersOwes s r → NumbersOwes s t → r ≡ t
+numbers-one s = one-answer
+
+pub behind-three-one : (s : List ℕ) {r t : List ℕ} → BehindThreeOwes s r → BehindThreeOwes s t → r ≡ t
+behind-three-one s = one-answer
 
 -- an answer, and all that the lent buffer holds
 one-answer-put : {A B : Type 0} {x : A × B} {r t : A} {after other : B} → (r, after) ≡ x → (t, other) ≡ x → (r ≡ t) × (after ≡ other)

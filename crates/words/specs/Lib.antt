@@ -1,4 +1,5 @@
 pub mod Escapes
 pub mod Owes
 pub mod Sections
+pub mod Three
 pub mod Words

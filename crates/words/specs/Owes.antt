@@ -7,8 +7,10 @@ use Rattle.words.specs.declared.Byte.{Byte}
 use Rattle.words.specs.declared.Number.{Number}
 use Rattle.words.specs.declared.escapes.Unescaped.{Unescaped}
 use Rattle.words.specs.declared.section.Section.{Section}
+use Rattle.words.specs.declared.three.Three.{Three}
 use Rattle.words.specs.Escapes.{bytesOf, wordOf, putOf}
 use Rattle.words.specs.Sections.{sectionOf}
+use Rattle.words.specs.Three.{numbersOf}
 use Rattle.words.specs.Words.{before, firstWord, otherWords, heading, decimalOf, hexOf}
 
 abbrev pub UntilOwes : List ℕ → ℕ → ℕ → Type 0
@@ -37,3 +39,9 @@ UnescapeOwes text out r after = (r, after) ≡ putOf (bytesOf text) out
 
 abbrev pub WordOwes : (text out : List ℕ) → Unescaped → (after : List ℕ) → Type 0
 WordOwes text out r after = (r, after) ≡ putOf (wordOf text) out
+
+abbrev pub NumbersOwes : List ℕ → Three → Type 0
+NumbersOwes s r = r ≡ numbersOf s
+
+abbrev pub BehindThreeOwes : List ℕ → List ℕ → Type 0
+BehindThreeOwes s r = r ≡ otherWords (otherWords (otherWords s))

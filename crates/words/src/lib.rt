@@ -8,6 +8,7 @@ ghost use Rattle.words.specs.Words.{nibble, written};
 
 pub mod escapes;
 pub mod section;
+pub mod three;
 
 // A byte that two digits write.
 pub enum Byte {

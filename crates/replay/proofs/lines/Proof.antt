@@ -1,5 +1,6 @@
--- `replay::lines` is safe and ends: a line takes its line feed with it, so each turn has less left. Assumes nothing.
+-- `replay::lines` is safe and ends: a line takes its line feed with it, so each turn has less left, and what is common to logs lies within the buffer. Assumes nothing.
 use Prim.Native.Nat.{_≤_, _-_}
+use mathlib.Core.Path.{_≡_}
 use native.Mathlib.Omega.{arith}
 use borrow.Author.Needs.{needs}
 use lib.ListN.{length}
@@ -8,10 +9,10 @@ use Rattle.replay.proofs.lines.Statement.{statement}
 use Rattle.replay.proofs.lines.Tie as tie
 
 abbrev Inv-loop : tie.InvT-loop
-Inv-loop s at₀ at = at ≤ length s
+Inv-loop s log₀ common₀ at₀ log common at = (at ≤ length s) × (common .length ≤ 8192)
 
 abbrev μ-loop : tie.MeasureT-loop
-μ-loop s at₀ at = length s - at
+μ-loop s log₀ common₀ at₀ log common at = length s - at
 
 pub lines-spec : {M : Type 1} → statement M
 lines-spec =
@@ -19,6 +20,7 @@ lines-spec =
     (tie.spec
     Inv-loop
     μ-loop
+    (λ c κs. search needs)
     (λ c. search needs)
     (λ c. search needs)
     (λ c. search needs)
@@ -26,10 +28,10 @@ lines-spec =
     (λ c κs. search needs)
     (λ c. search until-taken)
     (λ c κs. search needs)
-    (λ c. omega (arith, until-within _ _ (c .before .before .until .ensures)))
-    (λ c. search needs)
-    (λ c. search needs)
-    (λ c. search needs)
-    (λ c. search needs)
     (λ c. omega (arith, until-within _ _ (c .before .before .before .until .ensures)))
+    (λ c. search needs)
+    (λ c. search needs)
+    (λ c. search needs)
+    (λ c. search needs)
+    (λ c. omega (arith, until-within _ _ (c .before .before .before .before .until .ensures)))
     (λ c. search needs))

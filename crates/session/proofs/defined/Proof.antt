@@ -15,7 +15,7 @@ defined-spec =
     (λ c. search needs)
     (λ c. search needs)
     (λ c. search needs)
-    (λ c κs. ap (λ x. sound (x .definition)) (c .before .before .before .define-plainly .ensures) ∙ defined-sound _ _ _ _)
+    (λ c κs. ap (λ x. sound (x .definition)) (c .before .before .before .define .ensures) ∙ defined-sound _ _ _ _)
     (λ c. search needs)
     (λ c κs. search needs)
     (λ c. search needs)

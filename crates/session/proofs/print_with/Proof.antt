@@ -1,11 +1,11 @@
--- `session::print` is safe: the section begins within the log. Assumes nothing.
+-- `session::print_with` is safe: the section begins within the log. Assumes nothing.
 use borrow.Author.Needs.{needs}
 use Rattle.header.proofs.Within.{section-within}
-use Rattle.session.proofs.print.Statement.{statement}
-use Rattle.session.proofs.print.Tie as tie
+use Rattle.session.proofs.print_with.Statement.{statement}
+use Rattle.session.proofs.print_with.Tie as tie
 
-pub print-spec : {M : Type 1} → statement M
-print-spec =
+pub print-with-spec : {M : Type 1} → statement M
+print-with-spec =
     tie.close
     (tie.spec
     (λ c κs. search needs)

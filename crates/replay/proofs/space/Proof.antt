@@ -1,0 +1,7 @@
+-- `replay::space` meets its contract. Assumes nothing.
+use Rattle.replay.proofs.Parts.{zeros}
+use Rattle.replay.proofs.space.Statement.{statement}
+use Rattle.replay.proofs.space.Tie as tie
+
+pub space-spec : {M : Type 1} → statement M
+space-spec = tie.close (tie.spec (λ c. zeros 1048576))
