@@ -1,4 +1,5 @@
 pub mod Calls
+pub mod Lent
 pub mod Loop
 pub mod One
 pub mod Ticks

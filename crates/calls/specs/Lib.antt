@@ -1,3 +1,4 @@
 pub mod Call
+pub mod Lent
 pub mod Owes
 pub mod Steps

@@ -16,6 +16,8 @@ use section::Ending;
 use section::Looked;
 use section::Walk;
 
+pub mod quick;
+
 // Whether a look was in vain: then it ended in a search, which may have found nothing.
 enum Vain {
     Searched(bool),

@@ -4,9 +4,10 @@ use mathlib.Core.Bool.{Bool, true, false, cond}
 use mathlib.Core.List.{List}
 use mathlib.Core.Path.{_≡_, refl, sym, ap, subst, _∙_}
 use native.Mathlib.Omega.{arith}
-use lib.ListN.{drop}
+use lib.ListN.{take, drop}
 use lib.Seq.{drop-drop}
-use Rattle.plan.specs.Plan.{Shape}
+use Rattle.plan.specs.declared.Definition.{Definition}
+use Rattle.plan.specs.Plan.{Shape, fields, shape}
 use Rattle.reader.specs.declared.Cursor.{Cursor}
 use Rattle.reader.specs.declared.Kind.{Kind}
 use Rattle.reader.specs.declared.RestorePoint.{RestorePoint}
@@ -14,9 +15,13 @@ use Rattle.reader.specs.declared.Skip.{Skip}
 use Rattle.reader.specs.declared.Step.the-variants as step
 use Rattle.reader.specs.Got.{Spent, Got, got, cut, corrupt, over}
 use Rattle.reader.specs.Place.{rest, on, pointOf, placeOf}
+use Rattle.raws.specs.declared.Front.{Front}
 use Rattle.raws.specs.declared.Raw.{Raw}
 use Rattle.raws.specs.declared.Reading as raws
 use Rattle.raws.specs.Place.{stoppedAt, rawAt}
+use Rattle.raws.specs.Place as rooms
+use Rattle.raws.specs.Raws.{intraRaw, interRaw}
+use Rattle.raws.proofs.Frames.{counted}
 use Rattle.event.specs.declared.Event.{Event}
 use Rattle.event.specs.declared.Reading as event
 use Rattle.event.specs.declared.Reading.the-variants.{Told, Cut, Corrupt}
@@ -26,7 +31,7 @@ use Rattle.extent.specs.declared.Found.the-variants.{Intra}
 use Rattle.extent.specs.declared.Look.{Look}
 use Rattle.extent.specs.declared.Seen.the-variants.{Rejected, Cutoff, Accepted}
 use Rattle.extent.specs.Extent.{Content, content, told, closed, bare, trial, judged}
-use Rattle.extent.specs.Sight.{rawOf}
+use Rattle.extent.specs.Sight.{GoesOn}
 use Rattle.extent.proofs.First.{from-point}
 
 -- a reading at c that gives x, and q behind it
@@ -134,5 +139,16 @@ rejected-by k e made = e ∙ ap (λ m. bare (Rejected k m)) made
 pub of-kind : (f : List ℕ → Skip) (h : Shape) (t : List ℕ) (j : Kind) {k : Kind} {y : Look} → k ≡ j → y ≡ judged f j t (trial h j t) → y ≡ judged f k t (trial h k t)
 of-kind f h t j same e = e ∙ ap (λ i. judged f i t (trial h i t)) (sym same)
 
-pub fields-of : (h : Shape) (c : Cursor) (t : List ℕ) (j : Kind) {k : Kind} {y : raws.Reading} → k ≡ j → y ≡ rawAt c (rawOf h j t) → y ≡ rawAt c (rawOf h k t)
-fields-of h c t j same e = e ∙ ap (λ i. rawAt c (rawOf h i t)) (sym same)
+-- a reading behind a kind byte goes on no further back
+pub goes-on : (c : Cursor) (g : Got Raw) {x : Front} {vs : List ℕ} → rooms.beside x vs ≡ rawAt c g → GoesOn c x
+goes-on c g e = record { forward = λ q h. raw-forward c g e h }
+
+-- the frames of a definition: as the code counts their fields, and as the meaning reads them
+module _ (d : Definition) (s : List ℕ) (c : Cursor) {x : raws.Reading} {n : ℕ} where
+  pub intra-of : n ≡ fields (d .main) → x ≡ rawAt c (intraRaw (take n (d .main .«intra_encodings»)) (rest c s)) → x ≡ rawAt c (intraRaw (shape d .intra) (rest c s))
+  unfolding shape
+  intra-of count e = counted intraRaw _ s c e count
+
+  pub inter-of : n ≡ fields (d .main) → x ≡ rawAt c (interRaw (take n (d .main .«inter_encodings»)) (rest c s)) → x ≡ rawAt c (interRaw (shape d .inter) (rest c s))
+  unfolding shape
+  inter-of count e = counted interRaw _ s c e count

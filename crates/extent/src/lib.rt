@@ -5,16 +5,14 @@ ghost use Rattle.plan.specs.Plan.{shape};
 ghost use Rattle.reader.specs.Place.{rest, placeOf};
 ghost use Rattle.reader.specs.Got.{over};
 ghost use Rattle.reader.specs.declared.Kind.the-variants.{Event};
-ghost use Rattle.reader.specs.declared.Step.the-variants.{Corrupt};
-ghost use Rattle.raws.specs.Place.{rawAt, stoppedAt};
 ghost use Rattle.event.specs.Events.{eventRead};
 ghost use Rattle.extent.specs.declared.Seen.the-variants.{Rejected};
-ghost use Rattle.extent.specs.Extent.{closed, bare, content, told, judged, trial, seekIf};
+ghost use Rattle.extent.specs.Extent.{closed, bare, told, judged, trial, seekIf};
 ghost use Rattle.extent.specs.Owes.{SightOwes};
-ghost use Rattle.extent.specs.Sight.{rawOf};
+ghost use Rattle.extent.specs.Sight.{beside, GoesOn, Judges};
 use plan::Definition;
+use raws::Front;
 use raws::Raw;
-use raws::Reading;
 use reader::Byte;
 use reader::Cursor;
 use reader::Kind;
@@ -47,6 +45,13 @@ pub struct Look {
     pub raw: Raw,
 }
 
+// A look but for the raw numbers of the fields, which stand beside it in lent rooms.
+pub struct Glance {
+    pub seen: Seen,
+    pub iteration: u32,
+    pub time: u32,
+}
+
 // Whether a frame may end here: before the end of data or one of the six bytes.
 fn is_closed(s: &[u8], at: Cursor) -> bool
     ensures { λ r. ⌜ r ≡ closed (rest at (now (s .entry))) ⌝ }
@@ -77,79 +82,60 @@ fn search(s: &[u8], from: RestorePoint, barren: bool) -> Skip
     reader::skip_to_frame(s, from)
 }
 
-fn without_numbers(seen: Seen) -> Look
-    ensures { λ r. ⌜ r ≡ bare seen ⌝ }
+// No numbers: the rooms are emptied.
+fn without_numbers(seen: Seen, out: &mut [u32; 62]) -> Glance
+    ensures { λ r. ⌜ beside r (now (out .exit)) ≡ bare seen ⌝ }
 {
-    let raw = Raw {
+    raws::clear(out);
+    Glance {
+        seen,
         iteration: 0,
         time: 0,
-        fields: [0u32; 62],
-    };
-    Look { seen, raw }
+    }
 }
 
 // The search starts behind the kind byte, wherever decoding stopped.
-fn rejected(kind: Kind, s: &[u8], from: RestorePoint, barren: bool) -> Look
-    ensures { λ r. ⌜ r ≡ bare (Rejected kind (seekIf barren (rest (placeOf from) (now (s .entry))))) ⌝ }
+fn rejected(kind: Kind, s: &[u8], from: RestorePoint, barren: bool, out: &mut [u32; 62]) -> Glance
+    ensures { λ r. ⌜ beside r (now (out .exit)) ≡ bare (Rejected kind (seekIf barren (rest (placeOf from) (now (s .entry))))) ⌝ }
 {
     let skip = search(s, from, barren);
-    without_numbers(Seen::Rejected(kind, skip))
+    without_numbers(Seen::Rejected(kind, skip), out)
 }
 
-fn no_fields() -> Reading
-    ensures { λ r. ⌜ r ≡ stoppedAt Corrupt ⌝ }
-{
-    let raw = Raw {
-        iteration: 0,
-        time: 0,
-        fields: [0u32; 62],
-    };
-    Reading {
-        step: Step::Corrupt,
-        raw,
-    }
-}
-
-// The raw numbers behind a kind byte: none but main and slow frames have any.
-fn read_kind(d: Definition, kind: Kind, s: &[u8], from: Cursor) -> Reading
-    ensures { λ r. ⌜ r ≡ rawAt from (rawOf (shape d) kind (rest from (now (s .entry)))) ⌝ }
-{
-    match kind {
-        Kind::Intra => raws::intra(d, s, from),
-        Kind::Inter => raws::inter(d, s, from),
-        Kind::Slow => raws::slow(d, s, from),
-        Kind::Event => no_fields(),
-        Kind::Gps => no_fields(),
-        Kind::Home => no_fields(),
-    }
-}
-
-// A trial of a main or slow frame.
-fn try_fields(d: Definition, kind: Kind, frame: Found, s: &[u8], from: Cursor, barren: bool) -> Look
-    ensures { λ r. ⌜ r ≡ judged (seekIf barren) kind (rest from (now (s .entry))) (over (content frame) (rawOf (shape d) kind (rest from (now (s .entry))))) ⌝ }
+// What becomes of a trial of a main or slow frame, by the reading behind its kind byte, of which the rooms hold the numbers.
+fn judge(
+    reading: Front,
+    kind: Kind,
+    frame: Found,
+    s: &[u8],
+    from: Cursor,
+    barren: bool,
+    out: &mut [u32; 62],
+) -> Glance
+    requires { ⌜ GoesOn from reading ⌝ }
+    ensures { λ r. ⌜ Judges reading kind frame (now (s .entry)) from barren (now (out .entry)) r (now (out .exit)) ⌝ }
 {
     let start = from.get_restore_point();
-    let reading = read_kind(d, kind, s, from);
     let step = reading.step;
     match step {
         Step::Next(behind) => {
             if is_closed(s, behind) {
-                let raw = reading.raw;
                 let more = behind.at - from.at;
-                return Look {
+                return Glance {
                     seen: Seen::Accepted(frame, more),
-                    raw,
+                    iteration: reading.iteration,
+                    time: reading.time,
                 };
             }
-            rejected(kind, s, start, barren)
+            rejected(kind, s, start, barren, out)
         }
-        Step::Cut => without_numbers(Seen::Cutoff(kind)),
-        Step::Corrupt => rejected(kind, s, start, barren),
+        Step::Cut => without_numbers(Seen::Cutoff(kind), out),
+        Step::Corrupt => rejected(kind, s, start, barren, out),
     }
 }
 
-fn try_event(s: &[u8], from: Cursor, barren: bool) -> Look
-    ensures { λ r. ⌜ r ≡ judged (seekIf barren) Event (rest from (now (s .entry))) (over told (eventRead (rest from (now (s .entry))))) ⌝ }
+fn try_event(s: &[u8], from: Cursor, barren: bool, out: &mut [u32; 62]) -> Glance
+    ensures { λ r. ⌜ beside r (now (out .exit)) ≡ judged (seekIf barren) Event (rest from (now (s .entry))) (over told (eventRead (rest from (now (s .entry))))) ⌝ }
 {
     let start = from.get_restore_point();
     let reading = event::read(s, from);
@@ -157,45 +143,87 @@ fn try_event(s: &[u8], from: Cursor, barren: bool) -> Look
         event::Reading::Told(event, behind) => {
             if is_closed(s, behind) {
                 let more = behind.at - from.at;
-                return without_numbers(Seen::Accepted(Found::Event(event), more));
+                return without_numbers(Seen::Accepted(Found::Event(event), more), out);
             }
-            rejected(Kind::Event, s, start, barren)
+            rejected(Kind::Event, s, start, barren, out)
         }
-        event::Reading::Cut => without_numbers(Seen::Cutoff(Kind::Event)),
-        event::Reading::Corrupt => rejected(Kind::Event, s, start, barren),
+        event::Reading::Cut => without_numbers(Seen::Cutoff(Kind::Event), out),
+        event::Reading::Corrupt => rejected(Kind::Event, s, start, barren, out),
     }
 }
 
 // A trial from behind its kind byte. G and H are corrupt at once.
-fn try_kind(d: Definition, kind: Kind, s: &[u8], from: Cursor, barren: bool) -> Look
-    ensures { λ r. ⌜ r ≡ judged (seekIf barren) kind (rest from (now (s .entry))) (trial (shape d) kind (rest from (now (s .entry)))) ⌝ }
+fn try_kind(
+    d: Definition,
+    kind: Kind,
+    s: &[u8],
+    from: Cursor,
+    barren: bool,
+    out: &mut [u32; 62],
+) -> Glance
+    ensures { λ r. ⌜ beside r (now (out .exit)) ≡ judged (seekIf barren) kind (rest from (now (s .entry))) (trial (shape d) kind (rest from (now (s .entry)))) ⌝ }
 {
+    let main = d.main;
+    let slow = d.slow;
     match kind {
-        Kind::Event => try_event(s, from, barren),
-        Kind::Intra => try_fields(d, Kind::Intra, Found::Intra, s, from, barren),
-        Kind::Inter => try_fields(d, Kind::Inter, Found::Inter, s, from, barren),
-        Kind::Gps => rejected(Kind::Gps, s, from.get_restore_point(), barren),
-        Kind::Home => rejected(Kind::Home, s, from.get_restore_point(), barren),
-        Kind::Slow => try_fields(d, Kind::Slow, Found::Slow, s, from, barren),
+        Kind::Event => try_event(s, from, barren, out),
+        Kind::Intra => {
+            let encodings = main.intra_encodings;
+            let reading = raws::intra_into(main.fields(), &encodings, s, from, out);
+            judge(reading, Kind::Intra, Found::Intra, s, from, barren, out)
+        }
+        Kind::Inter => {
+            let encodings = main.inter_encodings;
+            let reading = raws::inter_into(main.fields(), &encodings, s, from, out);
+            judge(reading, Kind::Inter, Found::Inter, s, from, barren, out)
+        }
+        Kind::Gps => rejected(Kind::Gps, s, from.get_restore_point(), barren, out),
+        Kind::Home => rejected(Kind::Home, s, from.get_restore_point(), barren, out),
+        Kind::Slow => {
+            let encodings = slow.encodings;
+            let reading = raws::slow_into(slow.n, &encodings, s, from, out);
+            judge(reading, Kind::Slow, Found::Slow, s, from, barren, out)
+        }
     }
 }
 
 // What stands at a place. The flag says that a search from there finds nothing.
-pub fn sight(d: Definition, s: &[u8], place: usize, barren: bool) -> Look
-    ensures { λ r. ⌜ SightOwes d (now (s .entry)) place barren r ⌝ }
+pub fn sight_into(
+    d: Definition,
+    s: &[u8],
+    place: usize,
+    barren: bool,
+    out: &mut [u32; 62],
+) -> Glance
+    ensures { λ r. ⌜ SightOwes d (now (s .entry)) place barren (beside r (now (out .exit))) ⌝ }
 {
     let byte = reader::read_u8(s, Cursor { at: place });
     match byte {
         Byte::Here(b, behind) => {
             let letter = Letter::from_byte(b);
             match letter {
-                Letter::Is(kind) => try_kind(d, kind, s, behind, barren),
+                Letter::Is(kind) => try_kind(d, kind, s, behind, barren, out),
                 Letter::Other => {
                     let skip = search(s, behind.get_restore_point(), barren);
-                    without_numbers(Seen::Passed(skip))
+                    without_numbers(Seen::Passed(skip), out)
                 }
             }
         }
-        Byte::End => without_numbers(Seen::Nothing),
+        Byte::End => without_numbers(Seen::Nothing, out),
     }
+}
+
+// The same with the numbers in the answer.
+pub fn sight(d: Definition, s: &[u8], place: usize, barren: bool) -> Look
+    ensures { λ r. ⌜ SightOwes d (now (s .entry)) place barren r ⌝ }
+{
+    let mut fields = [0u32; 62];
+    let glance = sight_into(d, s, place, barren, &mut fields);
+    let seen = glance.seen;
+    let raw = Raw {
+        iteration: glance.iteration,
+        time: glance.time,
+        fields,
+    };
+    Look { seen, raw }
 }

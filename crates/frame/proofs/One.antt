@@ -9,12 +9,20 @@ use Rattle.reader.specs.declared.Cursor.{Cursor}
 use Rattle.reader.proofs.One.{one-answer}
 use Rattle.frame.specs.declared.fields.Context.{Context}
 use Rattle.frame.specs.declared.fields.FieldReading.{FieldReading}
+use Rattle.frame.specs.declared.Head.{Head}
 use Rattle.frame.specs.declared.MainFrame.{MainFrame}
-use Rattle.frame.specs.Owes.{AbsentOwes, IntraOwes, InterOwes, SlowOwes, ReadFieldsOwes}
+use Rattle.frame.specs.Owes.{AbsentOwes, HeadOwes, WithOwes, IntraOwes, InterOwes, SlowOwes, ReadFieldsOwes}
 
 pub absent-one : {r t : MainFrame} → AbsentOwes r → AbsentOwes t → r ≡ t
 absent-one = one-answer
 
+pub head-one : (f : MainFrame) {r t : Head} → HeadOwes f r → HeadOwes f t → r ≡ t
+head-one f = one-answer
+
+pub with-one : (h : Head) (vs : List ℕ) {r t : MainFrame} → WithOwes h vs r → WithOwes h vs t → r ≡ t
+with-one h vs = one-answer
+
+-- in lent rooms too
 pub intra-one : (d : Definition) (last : MainFrame) (x : Raw) {r t : MainFrame} → IntraOwes d last x r → IntraOwes d last x t → r ≡ t
 intra-one d last x f g = one-answer (f none) (g none)
 

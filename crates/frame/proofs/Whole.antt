@@ -1,13 +1,13 @@
 -- Whole frames from their parts: the lists of a definition cut at the field count, and what the frames before leave.
 use Prim.Native.Nat.{ℕ, zero, suc, _+_, min}
-use mathlib.Core.Bool.{Bool, false, cond}
+use mathlib.Core.Bool.{Bool, cond}
 use mathlib.Core.List.{List}
 use mathlib.Core.Option.{Option, none, some}
 use mathlib.Core.Path.{_≡_, refl, sym, ap, ap₂, _∙_}
 use native.Mathlib.Omega.{arith}
 use lib.Dec.{eqb}
 use lib.IntN.{_+ℤ_}
-use lib.ListN.{length, take, replicate, length-take}
+use lib.ListN.{length, take, length-take}
 use borrow.Author.Tests.{ne-eqb}
 use Rattle.bits.specs.Pattern.{wrap, meant}
 use Rattle.plan.specs.declared.Definition.{Definition}
@@ -18,11 +18,13 @@ use Rattle.predictor.specs.declared.Surroundings.{Surroundings}
 use Rattle.predictor.specs.Owes.{given}
 use Rattle.predictor.specs.Predictors.{orZero}
 use Rattle.raws.specs.declared.Raw.{Raw}
+use Rattle.frame.specs.declared.Head.{Head}
 use Rattle.frame.specs.declared.MainFrame.{MainFrame}
 use Rattle.frame.specs.declared.Mark.the-variants.{Intra, Inter}
 use Rattle.frame.specs.Earlier.{isThere, fieldsBy, laid, timeBy, behindInterBy}
 use Rattle.frame.specs.Frames.{around, orNone, intraFields, interFields, slowFields, intraFrame, interFrame, slowValues}
-use Rattle.frame.specs.Owes.{IntraOwes, InterOwes, SlowOwes}
+use Rattle.frame.specs.Owes.{HeadOwes, IntraOwes, InterOwes, SlowOwes}
+use Rattle.frame.specs.Parts.{frameOf}
 use Rattle.frame.specs.Past.{pastOf, bodyOf}
 use Rattle.frame.specs.Time.{held, straightTime, skippedAfter, iterationAfter, timeAfter}
 use Rattle.frame.specs.Values.{Fields}
@@ -45,9 +47,9 @@ main-values-are m ps es a last older raws {k = k} r e f g h =
     r ∙ ap (λ x. laid x last older raws) same
 
 pub intra-is : (d : Definition) (last : MainFrame) (x : Raw) {t : Bool} {vs : List ℕ} → t ≡ isThere (last .mark)
-    → vs ≡ laid (intraFields (shape d) (rules d)) (given t (last .values)) (given false (replicate 62 0)) (x .fields)
+    → vs ≡ laid (intraFields (shape d) (rules d)) (given t (last .values)) none (x .fields)
     → IntraOwes d last x (record { mark = Intra; iteration = x .iteration; time = x .time; values = vs })
-unfolding intraFrame given
+unfolding intraFrame
 intra-is d last x e v older =
     let values = v ∙ ap (λ a. laid (intraFields (shape d) (rules d)) a none (x .fields)) (given-values last e) in
     λ i. record { mark = Intra; iteration = x .iteration; time = x .time; values = values i }
@@ -92,10 +94,9 @@ slow-encodings-are d = either (d .slow .n) (d .slow .encodings)
     either (suc n) l = rw (ne-eqb (suc n) 0 (λ e. omega arith))
 
 pub slow-is : (d : Definition) (x : Raw) {k : ℕ} {r : List ℕ} → k ≡ min (d .slow .n) 16
-    → r ≡ laid (fieldsBy (take k (d .slow .predictors)) (take k (d .slow .encodings)) k (around (rules d) 0))
-    (given false (replicate 62 0)) (given false (replicate 62 0)) (x .fields)
+    → r ≡ laid (fieldsBy (take k (d .slow .predictors)) (take k (d .slow .encodings)) k (around (rules d) 0)) none none (x .fields)
     → SlowRooms (d .slow) → SlowOwes d x r
-unfolding slowValues slowFields rules given
+unfolding slowValues slowFields rules
 slow-is d x {k} h v rooms =
     let n = d .slow .n in
     let ps = d .slow .predictors in
@@ -104,3 +105,18 @@ slow-is d x {k} h v rooms =
     let codes = front-all k n 16 es h (rooms .slow-encodings) ∙ sym (slow-encodings-are d) in
     let same = fields-same (around (rules d) 0) (front-all k n 16 ps h (rooms .slow-predictors)) codes long in
     v ∙ ap (λ g. laid g none none (x .fields)) same
+
+-- ## By value
+
+-- a frame is its head and its values
+whole : (f : MainFrame) {h : Head} → HeadOwes f h → frameOf h (f .values) ≡ f
+whole f e = ap (λ h. frameOf h (f .values)) e
+
+pub intra-whole : (d : Definition) (last : MainFrame) (x : Raw) {h : Head} {r t : MainFrame} → HeadOwes last h
+    → IntraOwes d (frameOf h (last .values)) x t → r ≡ t → IntraOwes d last x r
+intra-whole d last x e f w older = w ∙ f older ∙ ap (λ l. intraFrame (shape d) (rules d) (pastOf (bodyOf l) older) x) (whole last e)
+
+pub inter-whole : (d : Definition) (last older : MainFrame) (x : Raw) {h k : Head} {r t : MainFrame} → HeadOwes last h → HeadOwes older k
+    → InterOwes d (frameOf h (last .values)) (frameOf k (older .values)) x t → r ≡ t → InterOwes d last older x r
+inter-whole d last older x e g f w =
+    w ∙ f ∙ ap₂ (λ l o. interFrame (shape d) (rules d) (pastOf (bodyOf l) (bodyOf o)) x) (whole last e) (whole older g)

@@ -10,13 +10,21 @@ use Rattle.raws.specs.declared.Raw.{Raw}
 use Rattle.reader.specs.declared.Cursor.{Cursor}
 use Rattle.frame.specs.declared.fields.Context.{Context}
 use Rattle.frame.specs.declared.fields.FieldReading.{FieldReading}
+use Rattle.frame.specs.declared.Head.{Head}
 use Rattle.frame.specs.declared.MainFrame.{MainFrame}
 use Rattle.frame.specs.Frames.{intraFrame, interFrame, slowValues}
 use Rattle.frame.specs.Lists.{byLists}
+use Rattle.frame.specs.Parts.{headOf, frameOf}
 use Rattle.frame.specs.Past.{Body, pastOf, bodyOf, noFrame}
 
 abbrev pub AbsentOwes : MainFrame → Type 0
 AbsentOwes r = r ≡ noFrame
+
+abbrev pub HeadOwes : MainFrame → Head → Type 0
+HeadOwes f r = r ≡ headOf f
+
+abbrev pub WithOwes : Head → (values : List ℕ) → MainFrame → Type 0
+WithOwes h vs r = r ≡ frameOf h vs
 
 -- whatever the older frame was
 abbrev pub IntraOwes : Definition → MainFrame → Raw → MainFrame → Type 0

@@ -1,13 +1,14 @@
 // The values of main and slow frames, from their raw numbers and the two main frames before.
 // The second half of the Rust's frame/mod.rs, with parse_intra and parse_inter of main/def.rs.
 ghost use mathlib.Core.Path.{_≡_};
-ghost use Prim.Native.Nat.{_+_, _≤_, min};
+ghost use Prim.Native.Nat.{ℕ, _+_, _≤_, min};
 ghost use lib.ListN.{length, replicate};
 ghost use Rattle.bits.specs.Pattern.{wrap};
 ghost use Rattle.predictor.specs.Owes.{given};
 ghost use Rattle.predictor.specs.Predictors.{orZero};
 ghost use Rattle.frame.specs.Earlier.{isThere, fieldsBy, laid};
-ghost use Rattle.frame.specs.Owes.{AbsentOwes, IntraOwes, InterOwes, SlowOwes};
+ghost use Rattle.frame.specs.Owes.{AbsentOwes, HeadOwes, WithOwes, IntraOwes, InterOwes, SlowOwes};
+ghost use Rattle.frame.specs.Parts.{frameOf, rawOf};
 use crate::time::time_after;
 use plan::Definition;
 use predictor::Before;
@@ -32,6 +33,27 @@ pub struct MainFrame {
     pub values: [u32; 62],
 }
 
+// A main frame but for its values, which stand beside it in lent rooms. Each frame that is made in such rooms first makes them 0.
+pub struct Head {
+    pub mark: Mark,
+    pub iteration: u32,
+    pub time: u64,
+}
+
+impl Head {
+    pub fn with(self, values: [u32; 62]) -> MainFrame
+        ensures { λ r. ⌜ WithOwes self values r ⌝ }
+    {
+        let mark = self.mark;
+        MainFrame {
+            mark,
+            iteration: self.iteration,
+            time: self.time,
+            values,
+        }
+    }
+}
+
 impl MainFrame {
     // No frame: what stands before a section's first.
     pub fn absent() -> MainFrame
@@ -42,6 +64,17 @@ impl MainFrame {
             iteration: 0,
             time: 0,
             values: [0u32; 62],
+        }
+    }
+
+    pub fn head(self) -> Head
+        ensures { λ r. ⌜ HeadOwes self r ⌝ }
+    {
+        let mark = self.mark;
+        Head {
+            mark,
+            iteration: self.iteration,
+            time: self.time,
         }
     }
 }
@@ -97,10 +130,19 @@ fn values_of(
     }
 }
 
-// An intra frame; the frame before the last has no part in it.
-pub fn intra(d: Definition, last: MainFrame, raw: Raw) -> MainFrame
-    ensures { λ r. ⌜ IntraOwes d last raw r ⌝ }
+// An intra frame. The frame before the last has no part in it, so that the last values are lent in its place.
+pub fn intra_in(
+    d: Definition,
+    last: Head,
+    last_values: &[u32; 62],
+    iteration: u32,
+    time: u32,
+    raws: &[u32; 62],
+    values: &mut [u32; 62],
+) -> Head
+    ensures { λ r. ⌜ IntraOwes d (frameOf last (now («last_values» .entry))) (rawOf iteration time (now (raws .entry))) (frameOf r (now (values .exit))) ⌝ }
 {
+    raws::clear(values);
     let main = d.main;
     let predictors = main.intra_predictors;
     let encodings = main.intra_encodings;
@@ -111,31 +153,26 @@ pub fn intra(d: Definition, last: MainFrame, raw: Raw) -> MainFrame
     };
     let last_mark = last.mark;
     let has_last = is_there(last_mark);
-    let last_values = last.values;
     let has_older = false;
-    let nothing = [0u32; 62];
-    let fields = raw.fields;
     let n = main.fields();
     let k = lesser(n, 62);
     let motor = lesser(main.motor, n);
-    let mut values = [0u32; 62];
     values_of(
         &predictors[..k],
         &encodings[..k],
         motor,
         around,
-        &fields,
+        raws,
         has_last,
-        &last_values,
+        last_values,
         has_older,
-        &nothing,
-        &mut values,
-    );
-    MainFrame {
-        mark: Mark::Intra,
-        iteration: raw.iteration,
-        time: raw.time as u64,
+        last_values,
         values,
+    );
+    Head {
+        mark: Mark::Intra,
+        iteration,
+        time: time as u64,
     }
 }
 
@@ -150,10 +187,20 @@ fn next_iteration(skipped: u32, mark: Mark, iteration: u32) -> u32
     step
 }
 
-// An inter frame.
-pub fn inter(d: Definition, last: MainFrame, older: MainFrame, raw: Raw) -> MainFrame
-    ensures { λ r. ⌜ InterOwes d last older raw r ⌝ }
+// An inter frame. Its raw numbers have no iteration, so its promise is for any.
+pub fn inter_in(
+    d: Definition,
+    last: Head,
+    last_values: &[u32; 62],
+    older: Head,
+    older_values: &[u32; 62],
+    time: u32,
+    raws: &[u32; 62],
+    values: &mut [u32; 62],
+) -> Head
+    ensures { λ r. ⌜ ((k : ℕ) → InterOwes d (frameOf last (now («last_values» .entry))) (frameOf older (now («older_values» .entry))) (rawOf k time (now (raws .entry))) (frameOf r (now (values .exit)))) ⌝ }
 {
+    raws::clear(values);
     let main = d.main;
     let predictors = main.inter_predictors;
     let encodings = main.inter_encodings;
@@ -166,37 +213,33 @@ pub fn inter(d: Definition, last: MainFrame, older: MainFrame, raw: Raw) -> Main
     let older_mark = older.mark;
     let has_last = is_there(last_mark);
     let has_older = is_there(older_mark);
-    let last_values = last.values;
-    let older_values = older.values;
-    let fields = raw.fields;
     let n = main.fields();
     let k = lesser(n, 62);
     let motor = lesser(main.motor, n);
-    let mut values = [0u32; 62];
     values_of(
         &predictors[..k],
         &encodings[..k],
         motor,
         around,
-        &fields,
+        raws,
         has_last,
-        &last_values,
+        last_values,
         has_older,
-        &older_values,
-        &mut values,
+        older_values,
+        values,
     );
-    MainFrame {
+    Head {
         mark: Mark::Inter,
         iteration: next_iteration(around.skipped, last_mark, last.iteration),
-        time: time_after(last_mark, last.time, older_mark, older.time, raw.time),
-        values,
+        time: time_after(last_mark, last.time, older_mark, older.time, time),
     }
 }
 
-// The values of a slow frame, in 62 rooms as a main frame's.
-pub fn slow(d: Definition, raw: Raw) -> [u32; 62]
-    ensures { λ r. ⌜ SlowOwes d raw r ⌝ }
+// The values of a slow frame, in 62 rooms as a main frame's. Its raw numbers have neither iteration nor time, and no history has a part in it.
+pub fn slow_in(d: Definition, raws: &[u32; 62], values: &mut [u32; 62])
+    ensures { λ _. ⌜ ((k t : ℕ) → SlowOwes d (rawOf k t (now (raws .entry))) (now (values .exit))) ⌝ }
 {
+    raws::clear(values);
     let slow = d.slow;
     let predictors = slow.predictors;
     let encodings = slow.encodings;
@@ -206,21 +249,64 @@ pub fn slow(d: Definition, raw: Raw) -> [u32; 62]
         numbers,
         skipped: 0,
     };
-    let fields = raw.fields;
-    let zeros = [0u32; 62];
-    let nothing = &zeros[..];
-    let mut values = [0u32; 62];
     values_of(
         &predictors[..k],
         &encodings[..k],
         k,
         around,
+        raws,
+        false,
+        raws,
+        false,
+        raws,
+        values,
+    );
+}
+
+// The same by value: an intra frame, an inter frame, and the values of a slow frame.
+pub fn intra(d: Definition, last: MainFrame, raw: Raw) -> MainFrame
+    ensures { λ r. ⌜ IntraOwes d last raw r ⌝ }
+{
+    let last_values = last.values;
+    let fields = raw.fields;
+    let mut values = [0u32; 62];
+    let head = intra_in(
+        d,
+        last.head(),
+        &last_values,
+        raw.iteration,
+        raw.time,
         &fields,
-        false,
-        nothing,
-        false,
-        nothing,
         &mut values,
     );
+    head.with(values)
+}
+
+pub fn inter(d: Definition, last: MainFrame, older: MainFrame, raw: Raw) -> MainFrame
+    ensures { λ r. ⌜ InterOwes d last older raw r ⌝ }
+{
+    let last_values = last.values;
+    let older_values = older.values;
+    let fields = raw.fields;
+    let mut values = [0u32; 62];
+    let head = inter_in(
+        d,
+        last.head(),
+        &last_values,
+        older.head(),
+        &older_values,
+        raw.time,
+        &fields,
+        &mut values,
+    );
+    head.with(values)
+}
+
+pub fn slow(d: Definition, raw: Raw) -> [u32; 62]
+    ensures { λ r. ⌜ SlowOwes d raw r ⌝ }
+{
+    let fields = raw.fields;
+    let mut values = [0u32; 62];
+    slow_in(d, &fields, &mut values);
     values
 }

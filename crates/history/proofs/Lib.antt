@@ -1,3 +1,4 @@
+pub mod Copied
 pub mod Lent
 pub mod One
 pub mod Past

@@ -2,7 +2,8 @@
 // Each step takes the history and hands it back; one thin push takes it by exclusive reference.
 ghost use mathlib.Core.Path.{_≡_};
 ghost use Rattle.history.specs.History.{inOrder};
-ghost use Rattle.history.specs.Owes.{EmptyOwes, PushedOwes, IsSoundOwes};
+ghost use Rattle.history.specs.Owes.{EmptyOwes, PushedOwes, IsSoundOwes, HeadPushedOwes, WithOwes, HeadsOwes, PushValuesOwes};
+use frame::Head;
 use frame::MainFrame;
 use frame::Mark;
 
@@ -58,6 +59,67 @@ impl History {
         let older_mark = older.mark;
         are_in_order(last_mark, older_mark)
     }
+}
+
+// The history but for the values of its frames, which stand beside it in lent rooms.
+pub struct Heads {
+    pub last: Head,
+    pub older: Head,
+}
+
+impl Heads {
+    // `pushed`, of the heads.
+    pub fn pushed(self, head: Head) -> Heads
+        ensures { λ r. ⌜ HeadPushedOwes self head r ⌝ }
+    {
+        let older = self.last;
+        Heads { last: head, older }
+    }
+
+    // With the values: the whole history.
+    pub fn with(self, last: [u32; 62], older: [u32; 62]) -> History
+        ensures { λ r. ⌜ WithOwes self last older r ⌝ }
+    {
+        let last_head = self.last;
+        let older_head = self.older;
+        History {
+            last: last_head.with(last),
+            older: older_head.with(older),
+        }
+    }
+}
+
+impl History {
+    pub fn heads(self) -> Heads
+        ensures { λ r. ⌜ HeadsOwes self r ⌝ }
+    {
+        let last = self.last;
+        let older = self.older;
+        Heads {
+            last: last.head(),
+            older: older.head(),
+        }
+    }
+}
+
+fn copy(from: &[u32; 62], to: &mut [u32; 62])
+    ensures { λ _. ⌜ now (to .exit) ≡ now (from .entry) ⌝ }
+{
+    let there = &from[..];
+    let here = &mut to[..];
+    let mut i = 0;
+    while i < here.len() {
+        here[i] = there[i];
+        i += 1;
+    }
+}
+
+// `pushed`, of the values.
+pub fn push_values(values: &[u32; 62], last: &mut [u32; 62], older: &mut [u32; 62])
+    ensures { λ _. ⌜ PushValuesOwes (now (values .entry)) (now (last .entry)) (now (last .exit)) (now (older .exit)) ⌝ }
+{
+    copy(last, older);
+    copy(values, last);
 }
 
 // `pushed` behind an exclusive reference: the Rust's push, which also hands back a reference to the frame in the history.

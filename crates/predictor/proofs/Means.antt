@@ -1,15 +1,14 @@
 -- Predictor 3. The sum of two signed values stands 2 ^ 32 below that of their turned patterns; half of it goes towards zero.
-use Prim.Native.Nat.{ℕ, zero, suc, _+_, _-_, _^_, _/_, _%_, _≤_, _<_}
+use Prim.Native.Nat.{ℕ, zero, suc, _+_, _-_, _^_, _/_, _<_}
 use mathlib.Core.Bool.{true, false}
-use mathlib.Core.Path.{_≡_, refl, sym, ap, ap₂, _∙_}
+use mathlib.Core.Path.{_≡_, sym, ap, ap₂, _∙_}
 use native.Mathlib.Omega.{arith}
 use lib.IntN.{ℤ, pos, negℤ, _+ℤ_, _-ℤ_, +ℤ-assoc, +ℤ-comm, +ℤ-negℤ-cancel}
-use borrow.Author.Tests.{lt-ltb, le-ltb}
 use Rattle.bits.specs.Pattern.{wrap, pattern, meant}
 use Rattle.bits.proofs.Laws.{wrap-id}
 use Rattle.predictor.specs.Predictors.{half, mean}
 use Rattle.predictor.specs.Sign.{valueOf}
-use Rattle.predictor.proofs.Lines.{up, meant-up}
+use Rattle.predictor.proofs.Lines.{by-sign, up, meant-up}
 
 -- two numbers moved up are their sum moved up twice
 sum-up : (a b : ℤ) → up a +ℤ up b ≡ a +ℤ b +ℤ pos (2 ^ 32)
@@ -19,31 +18,29 @@ sum-up a b =
     ∙ sym (+ℤ-assoc a b (pos (2 ^ 32)))
 
 -- the pattern of a number negated
-pattern-minus : (m : ℕ) → m < 2 ^ 32 → (2 ^ 32 - m) % 2 ^ 32 ≡ pattern (negℤ (pos m))
+pattern-minus : (m n : ℕ) → n + m ≡ 2 ^ 32 → wrap n ≡ pattern (negℤ (pos m))
 unfolding pattern wrap
-pattern-minus zero h = refl
-pattern-minus (suc m) h = omega arith
+pattern-minus zero n e = omega arith
+pattern-minus (suc m) n e = omega arith
+
+-- Half of a number, from the number moved up twice: one more where it is below zero, halved downwards and turned.
+half-up : (n m : ℕ) → m ≡ (n + (1 - n / 2 ^ 32)) / 2 → wrap (m + 2 ^ 31) ≡ pattern (half (pos n -ℤ pos (2 ^ 32)))
+unfolding half pattern wrap
+half-up n m e =
+    by-sign (λ z. wrap (m + 2 ^ 31) ≡ pattern (half z)) n (2 ^ 32)
+    (λ k. pattern-minus (suc (2 ^ 32 - suc n) / 2) (m + 2 ^ 31) (omega arith))
+    (λ k. let down : m ≡ (n - 2 ^ 32) / 2 + 2 ^ 31 = omega arith in omega arith)
 
 -- of signed values, with x and y their patterns turned
-module _ (l o : ℕ) {x y : ℕ} (h : (l < 2 ^ 32) × (o < 2 ^ 32)) (e : x ≡ wrap (l + 2 ^ 31)) (f : y ≡ wrap (o + 2 ^ 31)) where
-  sum-meant : meant l +ℤ meant o ≡ pos (x + y) -ℤ pos (2 ^ 32)
-  sum-meant =
-      let both : pos x +ℤ pos y ≡ meant l +ℤ meant o +ℤ pos (2 ^ 32) =
-      ap₂ _+ℤ_ (ap pos e ∙ sym (meant-up l (h .0))) (ap pos f ∙ sym (meant-up o (h .1))) ∙ sum-up (meant l) (meant o)
-      in
-      sym (+ℤ-negℤ-cancel (meant l +ℤ meant o) (pos (2 ^ 32))) ∙ ap (λ z. z -ℤ pos (2 ^ 32)) (sym both)
-
-  -- a sum below zero
-  pub mean-below : {r : ℕ} → (x + y < 2 ^ 32) × (r ≡ (2 ^ 32 - (2 ^ 32 - (x + y)) / 2) % 2 ^ 32) → r ≡ pattern (mean (valueOf true l) (valueOf true o))
-  unfolding mean half valueOf
-  mean-below k =
-      let sum : 2 ^ 32 - (x + y) ≡ suc (2 ^ 32 - suc (x + y)) = omega arith in
-      k .1 ∙ rw (sum-meant, lt-ltb (x + y) (2 ^ 32) (k .0), sum) (pattern-minus (suc (2 ^ 32 - suc (x + y)) / 2) (omega arith))
-
-  -- and one from zero on
-  pub mean-from : {r : ℕ} → (2 ^ 32 ≤ x + y) × (r ≡ (x + y - 2 ^ 32) / 2) → r ≡ pattern (mean (valueOf true l) (valueOf true o))
-  unfolding mean half valueOf pattern wrap
-  mean-from k = rw (sum-meant, le-ltb (x + y) (2 ^ 32) (k .0)) (omega arith)
+pub mean-signed : (l o m : ℕ) {x y : ℕ} → (l < 2 ^ 32) × (o < 2 ^ 32) → x ≡ wrap (l + 2 ^ 31) → y ≡ wrap (o + 2 ^ 31)
+    → m ≡ (x + y + (1 - (x + y) / 2 ^ 32)) / 2 → wrap (m + 2 ^ 31) ≡ pattern (mean (valueOf true l) (valueOf true o))
+unfolding mean valueOf
+mean-signed l o m {x} {y} h e f g =
+    let both : pos x +ℤ pos y ≡ meant l +ℤ meant o +ℤ pos (2 ^ 32) =
+    ap₂ _+ℤ_ (ap pos e ∙ sym (meant-up l (h .0))) (ap pos f ∙ sym (meant-up o (h .1))) ∙ sum-up (meant l) (meant o)
+    in
+    half-up (x + y) m g
+    ∙ ap (λ z. pattern (half z)) (ap (λ z. z -ℤ pos (2 ^ 32)) both ∙ +ℤ-negℤ-cancel (meant l +ℤ meant o) (pos (2 ^ 32)))
 
 pub mean-unsigned : (l o : ℕ) → (l < 2 ^ 32) × (o < 2 ^ 32) → (l + o) / 2 ≡ pattern (mean (valueOf false l) (valueOf false o))
 unfolding mean half valueOf pattern

@@ -21,23 +21,29 @@ unfolding valueOf pattern
 pattern-value true v h = pattern-meant v h
 pattern-value false v h = wrap-id v h
 
+-- a number that is none of so many
+abbrev NoneOf : (p k : ℕ) → Type 0 → Type 0
+NoneOf p k others = others × (p ≡ k → ⊥)
+
 -- a number that is no predictor
-pub beyond : (signed : Bool) (around : Surroundings) (last older : Option ℕ) (motor p : ℕ) → 11 < p → 0 ≡ prediction signed around last older motor p
+pub beyond : (signed : Bool) (around : Surroundings) (last older : Option ℕ) (motor p : ℕ)
+    → NoneOf p 11 (NoneOf p 10 (NoneOf p 9 (NoneOf p 8 (NoneOf p 7 (NoneOf p 6 (NoneOf p 5 (NoneOf p 4 (NoneOf p 3 (NoneOf p 2 (NoneOf p 1 (NoneOf p 0 Unit)))))))))))
+    → 0 ≡ prediction signed around last older motor p
 unfolding prediction
-beyond signed around last older motor p h =
+beyond signed around last older motor p ((((((((((((u, a), b), c), d), e), f), g), h), i), j), k), l) =
     rw (
-      ne-eqb p 0 (λ e. omega arith),
-      ne-eqb p 1 (λ e. omega arith),
-      ne-eqb p 2 (λ e. omega arith),
-      ne-eqb p 3 (λ e. omega arith),
-      ne-eqb p 4 (λ e. omega arith),
-      ne-eqb p 5 (λ e. omega arith),
-      ne-eqb p 6 (λ e. omega arith),
-      ne-eqb p 7 (λ e. omega arith),
-      ne-eqb p 8 (λ e. omega arith),
-      ne-eqb p 9 (λ e. omega arith),
-      ne-eqb p 10 (λ e. omega arith),
-      ne-eqb p 11 (λ e. omega arith),
+      ne-eqb p 0 a,
+      ne-eqb p 1 b,
+      ne-eqb p 2 c,
+      ne-eqb p 3 d,
+      ne-eqb p 4 e,
+      ne-eqb p 5 f,
+      ne-eqb p 6 g,
+      ne-eqb p 7 h,
+      ne-eqb p 8 i,
+      ne-eqb p 9 j,
+      ne-eqb p 10 k,
+      ne-eqb p 11 l,
     )
 
 -- what predictors 2 and 3 say of a field's histories

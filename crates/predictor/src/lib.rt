@@ -87,12 +87,10 @@ fn mean(signed: bool, last: u32, older: u32) -> u32
     ensures { λ r. ⌜ r ≡ pattern (Predictors.mean (valueOf signed last) (valueOf signed older)) ⌝ }
 {
     if signed {
+        // Towards zero: one more where the sum is negative, before it is halved downwards.
         let sum = turned(last) as u64 + turned(older) as u64;
-        if sum < 4294967296 {
-            let minus = (4294967296 - sum) / 2;
-            return ((4294967296 - minus) % 4294967296) as u32;
-        }
-        return ((sum - 4294967296) / 2) as u32;
+        let up = 1 - sum / 4294967296;
+        return turned(((sum + up) / 2) as u32);
     }
     ((last as u64 + older as u64) / 2) as u32
 }
@@ -141,6 +139,7 @@ fn number(of: HeaderNumber) -> u32
 }
 
 // The prediction for a field; motor_0 is the frame's own earlier motor[0]. A number that is no predictor gives 0.
+// One match over all of them is compiled to a table of jumps.
 pub fn predict(
     predictor: u8,
     signed: bool,
@@ -150,28 +149,19 @@ pub fn predict(
 ) -> u32
     ensures { λ r. ⌜ PredictOwes predictor signed around before «motor_0» r ⌝ }
 {
-    if predictor < 4 {
-        return match predictor {
-            0 => 0,
-            1 => last_or_zero(before),
-            2 => straight_on(signed, before),
-            _ => average(signed, before),
-        };
-    }
     let numbers = around.numbers;
     let throttle = numbers.min_throttle;
     let battery = numbers.vbat_reference;
     let least = numbers.min_motor;
-    if predictor < 8 {
-        return match predictor {
-            4 => number(throttle),
-            5 => motor_0,
-            6 => increment(around.skipped, before),
-            7 => 0,
-            _ => 0,
-        };
-    }
     match predictor {
+        0 => 0,
+        1 => last_or_zero(before),
+        2 => straight_on(signed, before),
+        3 => average(signed, before),
+        4 => number(throttle),
+        5 => motor_0,
+        6 => increment(around.skipped, before),
+        7 => 0,
         8 => 1500,
         9 => number(battery),
         10 => 0,

@@ -15,23 +15,20 @@ use Rattle.reader.specs.Place.{rest, on, readAt}
 use Rattle.reader.proofs.Behind as behind
 use Rattle.reader.proofs.Reading.{onward-give, on-both}
 use Rattle.decode.specs.Variable.{encoding0, encoding1}
-use Rattle.plan.specs.declared.Definition.{Definition}
-use Rattle.plan.specs.Plan.{fields, shape}
 use Rattle.raws.specs.declared.Raw.{Raw}
 use Rattle.raws.specs.declared.Reading.{Reading}
 use Rattle.raws.specs.Groups.{patterned, numbers}
+use Rattle.raws.specs.Owes.{someOf}
 use Rattle.raws.specs.Place.{stoppedAt, rawAt}
 use Rattle.raws.specs.Raws.{raw, timed, interRaw, slowRaw}
 
 -- ## The fields, behind the numbers before them
 
--- the first m fields: as the code counts them, and as the meaning reads them
-fields-is : (es s : List ℕ) (i t : ℕ) (c : Cursor) {n m : ℕ} {x : Reading} → n ≡ m → x ≡ rawAt c (over (raw i t) (numbers (take n es) (rest c s)))
-    → x ≡ rawAt c (_>>=_ (numbers (take m es)) (λ vs. give (raw i t vs)) (rest c s))
+-- as the code reads them, and as the meaning does
+fields-is : (es s : List ℕ) (i t : ℕ) (c : Cursor) {x : Reading} → x ≡ rawAt c (over (raw i t) (numbers es (rest c s)))
+    → x ≡ rawAt c (_>>=_ (numbers es) (λ vs. give (raw i t vs)) (rest c s))
 unfolding _>>=_
-fields-is es s i t c {m = m} count e =
-    e ∙ ap (λ k. rawAt c (over (raw i t) (numbers (take k es) (rest c s)))) count
-    ∙ ap (rawAt c) (sym (onward-give (raw i t) (rest c s) (numbers (take m es) (rest c s))))
+fields-is es s i t c e = e ∙ ap (rawAt c) (sym (onward-give (raw i t) (rest c s) (numbers es (rest c s))))
 
 -- a count over the rooms takes them all
 pub all-rooms : (es s : List ℕ) (i t : ℕ) (c : Cursor) (n : ℕ) {x : Reading} → x ≡ rawAt c (over (raw i t) (numbers es (rest c s))) → length es ≤ n
@@ -58,25 +55,30 @@ module _ (K : ℕ → Reader Raw) (s : List ℕ) (c : Cursor) (f : Reader ℕ) {
 
 -- ## The frames
 
-module _ (d : Definition) (s : List ℕ) (c : Cursor) {x : Reading} where
-  module _ {r : Read} {t : ℕ} {q : Cursor} {n : ℕ} where
+module _ (es s : List ℕ) (c : Cursor) {x : Reading} where
+  module _ {r : Read} {t : ℕ} {q : Cursor} where
     -- intra, from the time on
-    pub timed-is : (i : ℕ) → r ≡ readAt c (encoding1 (rest c s)) → r ≡ read.Num t q → n ≡ fields (d .main)
-        → x ≡ rawAt q (over (raw i t) (numbers (take n (d .main .«intra_encodings»)) (rest q s))) → x ≡ rawAt c (timed (shape d .intra) i (rest c s))
-    unfolding timed shape
-    timed-is i e h count y = then-num _ s c encoding1 e h (fields-is (d .main .«intra_encodings») s i t q count y)
+    pub timed-is : (i : ℕ) → r ≡ readAt c (encoding1 (rest c s)) → r ≡ read.Num t q → x ≡ rawAt q (over (raw i t) (numbers es (rest q s)))
+        → x ≡ rawAt c (timed es i (rest c s))
+    unfolding timed
+    timed-is i e h y = then-num _ s c encoding1 e h (fields-is es s i t q y)
 
-    pub inter-is : r ≡ readAt c (over pattern (encoding0 (rest c s))) → r ≡ read.Num t q → n ≡ fields (d .main)
-        → x ≡ rawAt q (over (raw 0 t) (numbers (take n (d .main .«inter_encodings»)) (rest q s))) → x ≡ rawAt c (interRaw (shape d .inter) (rest c s))
-    unfolding interRaw shape patterned
-    inter-is e h count y = then-num _ s c (patterned encoding0) e h (fields-is (d .main .«inter_encodings») s 0 t q count y)
+    pub inter-is : r ≡ readAt c (over pattern (encoding0 (rest c s))) → r ≡ read.Num t q → x ≡ rawAt q (over (raw 0 t) (numbers es (rest q s)))
+        → x ≡ rawAt c (interRaw es (rest c s))
+    unfolding interRaw patterned
+    inter-is e h y = then-num _ s c (patterned encoding0) e h (fields-is es s 0 t q y)
 
-  pub slow-is : x ≡ rawAt c (over (raw 0 0) (numbers (take (d .slow .n) (d .slow .encodings)) (rest c s))) → (d .slow .n ≡ 0 → ⊥)
-      → x ≡ rawAt c (slowRaw (shape d .slow) (rest c s))
-  unfolding shape slowRaw
-  slow-is y more = rw (ne-eqb (d .slow .n) 0 more) (fields-is (d .slow .encodings) s 0 0 c {n = d .slow .n} refl y)
+module _ (n : ℕ) (es s : List ℕ) (c : Cursor) {x : Reading} where
+  pub slow-is : x ≡ rawAt c (over (raw 0 0) (numbers (take n es) (rest c s))) → (n ≡ 0 → ⊥) → x ≡ rawAt c (slowRaw (someOf n es) (rest c s))
+  unfolding slowRaw
+  slow-is y more = rw (ne-eqb n 0 more) (fields-is (take n es) s 0 0 c y)
 
--- no slow lists
-pub slow-none : (d : Definition) (s : List ℕ) (c : Cursor) {x : Reading} → x ≡ stoppedAt Corrupt → d .slow .n ≡ 0 → x ≡ rawAt c (slowRaw (shape d .slow) (rest c s))
-unfolding shape slowRaw fault rawAt
-slow-none d s c e h = rw (eq-eqb (d .slow .n) 0 h) e
+  -- no slow lists
+  pub slow-none : x ≡ stoppedAt Corrupt → n ≡ 0 → x ≡ rawAt c (slowRaw (someOf n es) (rest c s))
+  unfolding slowRaw fault rawAt
+  slow-none e h = rw (eq-eqb n 0 h) e
+
+-- as many fields as a definition has
+pub counted : (R : List ℕ → Reader Raw) (es s : List ℕ) (c : Cursor) {n m : ℕ} {x : Reading} → x ≡ rawAt c (R (take n es) (rest c s)) → n ≡ m
+    → x ≡ rawAt c (R (take m es) (rest c s))
+counted R es s c e count = e ∙ ap (λ k. rawAt c (R (take k es) (rest c s))) count

@@ -1,4 +1,5 @@
 pub mod Counted
+pub mod Emptied
 pub mod Encodings
 pub mod Frames
 pub mod Laid

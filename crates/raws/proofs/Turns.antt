@@ -149,8 +149,9 @@ pub record Held (es s : List ℕ) (from : Cursor) (k t : ℕ) (values : List ℕ
   pub room : length values ≡ 62
   pub is : rawAt from (over (raw k t) (numbers es (rest from s))) ≡ laidAt k t values i next (numbers (drop i es) (rest next s))
 
-pub held-first : (es s : List ℕ) (from : Cursor) (k t : ℕ) → length es ≤ 62 → Held es s from k t (replicate 62 0) from 0
-held-first es s from k t h = record { fit = omega arith; room = refl; is = laid-fields k t from (numbers es (rest from s)) }
+pub held-first : (es s : List ℕ) (from : Cursor) (k t : ℕ) → length es ≤ 62 → {values : List ℕ} → values ≡ replicate 62 0 → Held es s from k t values from 0
+held-first es s from k t h e =
+    record { fit = omega arith; room = ap length e; is = laid-fields k t from (numbers es (rest from s)) ∙ ap (λ vs. laidAt k t vs 0 from (numbers es (rest from s))) (sym e) }
 
 -- the fields of the group at hand: there is room for their numbers, in the group and in the values
 pub held-run : {es s : List ℕ} {from : Cursor} {k t : ℕ} {values : List ℕ} {next : Cursor} {i n : ℕ} → Held es s from k t values next i → n ≡ firstRun (runs (drop i es)) → i < length es

@@ -8,11 +8,11 @@ ghost use Rattle.reader.specs.Place.{rest, readAt, groupAt};
 ghost use Rattle.raws.specs.Chunks.{firstRun, single};
 ghost use Rattle.raws.specs.Groups.{size, runs, numbers};
 ghost use Rattle.raws.specs.Groups as Groups;
-ghost use Rattle.raws.specs.Place.{rawAt};
+ghost use Rattle.raws.specs.Place.{beside, rawAt};
 ghost use Rattle.raws.specs.Raws.{raw};
-use crate::Raw;
-use crate::Reading;
-use crate::stopped;
+use crate::Front;
+use crate::empty;
+use crate::stop;
 use decode::negative_14_bit::negative_14_bit;
 use decode::tagged_variable::tagged_variable;
 use decode::variable::variable;
@@ -96,18 +96,19 @@ fn lay(out: &mut [u32], numbers: [u32; 8])
     }
 }
 
-// The numbers of the fields, behind the two that stand before them.
-pub(crate) fn read_values(
+// The numbers of the fields into lent rooms, behind the two that stand before them.
+pub(crate) fn read_into(
     encodings: &[u8],
     s: &[u8],
     from: Cursor,
     iteration: u32,
     time: u32,
-) -> Reading
-    requires { ⌜ length (now encodings) ≤ 62 ⌝ }
-    ensures { λ r. ⌜ r ≡ rawAt from (over (raw iteration time) (numbers (now (encodings .entry)) (rest from (now (s .entry))))) ⌝ }
+    out: &mut [u32],
+) -> Front
+    requires { ⌜ (length (now encodings) ≤ 62) × (length (now out) ≡ 62) ⌝ }
+    ensures { λ r. ⌜ beside r (now (out .exit)) ≡ rawAt from (over (raw iteration time) (numbers (now (encodings .entry)) (rest from (now (s .entry))))) ⌝ }
 {
-    let mut values = [0u32; 62];
+    empty(out);
     let mut next = from;
     let mut i = 0;
     while i < encodings.len() {
@@ -116,11 +117,11 @@ pub(crate) fn read_values(
             let read = number(encoding, s, next);
             match read {
                 Read::Num(v, behind) => {
-                    values[i] = v;
+                    out[i] = v;
                     next = behind;
                 }
-                Read::Cut => return stopped(Step::Cut),
-                Read::Corrupt => return stopped(Step::Corrupt),
+                Read::Cut => return stop(Step::Cut, out),
+                Read::Corrupt => return stop(Step::Corrupt, out),
             }
             i += 1;
         } else {
@@ -130,21 +131,18 @@ pub(crate) fn read_values(
             let numbers = read.values;
             match step {
                 Step::Next(behind) => {
-                    lay(&mut values[i..i + n], numbers);
+                    lay(&mut out[i..i + n], numbers);
                     next = behind;
                 }
-                Step::Cut => return stopped(Step::Cut),
-                Step::Corrupt => return stopped(Step::Corrupt),
+                Step::Cut => return stop(Step::Cut, out),
+                Step::Corrupt => return stop(Step::Corrupt, out),
             }
             i += n;
         }
     }
-    Reading {
+    Front {
         step: Step::Next(next),
-        raw: Raw {
-            iteration,
-            time,
-            fields: values,
-        },
+        iteration,
+        time,
     }
 }

@@ -17,8 +17,7 @@ use Rattle.calls.specs.declared.Called.{Called}
 use Rattle.calls.specs.Call.{called}
 use Rattle.calls.specs.Steps.{Steps}
 use Rattle.calls.proofs.Turns.{answer-is, walk-is, values-are}
-use Rattle.rows.specs.declared.Row.{Row}
-use Rattle.rows.specs.Rows.{Rows, Told, width, rowLength, rowFor, rowBytes, rowOf, inFront, rowsFrom, joined, laid, laidOut}
+use Rattle.rows.specs.Rows.{Row, Rows, Told, width, rowLength, rowFor, rowBytes, rowOf, inFront, rowsFrom, joined, laid, laidOut}
 use Rattle.rows.proofs.OneRow.{length-row-of}
 use Rattle.rows.proofs.Turns.{joined-append, joined-one, rows-over, rows-on}
 
@@ -117,3 +116,10 @@ module _ (d : Definition) (s out₀ : List ℕ) (w₀ : Walk) where
                   ∙ ap (λ rs. record { rows = rs; walk = next .walk }) (sym (append-assoc (l .done) (one ∷ []) (next .rows)))
                   ∙ ap (λ v. before (l .done ++ (one ∷ [])) (rowsFrom d s (room - (count + 1)) v)) (sym (walk-is d s st));
             }
+
+-- of a walk that is taken apart and put together again
+pub laid-whole : (d : Definition) (s out₀ : List ℕ) (k : ℕ) {w₀ w : Walk} → w₀ ≡ w → {count : ℕ} {out : List ℕ} {v v' : Walk} → v' ≡ v
+    → laid (record { check = check.Pass; count = count; walk = v }) out ≡ laidOut (rowsFrom d s k w₀) out₀
+    → laid (record { check = check.Pass; count = count; walk = v' }) out ≡ laidOut (rowsFrom d s k w) out₀
+laid-whole d s out₀ k whole {count} {out} same e =
+    ap (λ v. laid (record { check = check.Pass; count = count; walk = v }) out) same ∙ e ∙ ap (λ w. laidOut (rowsFrom d s k w) out₀) whole

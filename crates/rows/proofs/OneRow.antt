@@ -5,11 +5,8 @@ use mathlib.Core.List.{List, [], _∷_, _++_}
 use mathlib.Core.Path.{_≡_, refl, sym, ap, _∙_}
 use native.Mathlib.Nat.{min-eq-left, min-le-left}
 use native.Mathlib.Omega.{arith}
-use mir.Val.{Val}
-use denote.Laws.{Is}
-use denote.Struct.Declared as declared
 use lib.Dec.{ltb}
-use lib.ListN.{length, take, replicate, length-map, length-replicate}
+use lib.ListN.{length, take, replicate, length-replicate}
 use lib.Seq.{sets, length-sets, length-take-le}
 use borrow.Author.Tests.{le-ltb, ltb-true, ltb-false}
 use Rattle.plan.specs.declared.Definition.{Definition}
@@ -20,9 +17,9 @@ use Rattle.section.specs.Refusals.{larger, needed}
 use Rattle.section.specs.Walk.{Outcome}
 use Rattle.bytes.specs.Bytes.{le32, le64, words}
 use Rattle.bytes.proofs.Stores.{then-put, length-words}
-use Rattle.rows.specs.declared.Row.{Row}
-use Rattle.rows.specs.Rows.{width, rowLength, rowFor, rowBytes, rowOf}
-use Rattle.rows.proofs.Row as row
+use Rattle.rows.specs.declared.Heading.{Heading}
+use Rattle.rows.specs.Lent.{rowBeside}
+use Rattle.rows.specs.Rows.{Row, width, rowLength, rowFor, rowBytes, rowOf}
 
 -- ## How many values
 
@@ -62,8 +59,8 @@ row-length-some d = omega (arith, width-some d)
 
 -- ## What an answer shows
 
-pub row-shows : {a b : Answer} (vs : List ℕ) {r : Row} → a ≡ b → r ≡ rowFor b vs → r ≡ rowFor a vs
-row-shows vs e f = f ∙ ap (λ x. rowFor x vs) (sym e)
+pub row-shows : {a b : Answer} (vs ws : List ℕ) {h g : Heading} → a ≡ b → h ≡ g → rowBeside g ws ≡ rowFor b vs → rowBeside h ws ≡ rowFor a vs
+row-shows vs ws e made f = ap (λ x. rowBeside x ws) made ∙ f ∙ ap (λ x. rowFor x vs) (sym e)
 
 -- ## Its bytes
 
@@ -82,10 +79,6 @@ module _ (b₀ : List ℕ) (at n : ℕ) (r : Row) where
       then-put b₀ at (a ++ b ++ c ++ le64 (r .time)) (words (take n (r .values))) four i refl
 
 -- ## How many bytes
-
--- `c .good` tells it
-pub row-values : (r : Row) {vs : List Val} → Is (declared.row row.the-type) r vs → length (r .values) ≡ 62
-row-values r g = sym (length-map (r .values) (λ v. v)) ∙ g .1 .1 .1 .1 .1 .1 .0 .1 .0 .1
 
 pub length-row : (n : ℕ) (r : Row) → n ≤ length (r .values) → length (rowBytes n r) ≡ 24 + 4 * n
 unfolding rowBytes le32 le64

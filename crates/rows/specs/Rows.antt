@@ -20,7 +20,6 @@ use Rattle.section.specs.Walk.{Outcome}
 use Rattle.calls.specs.Call.{called}
 use Rattle.bytes.specs.Bytes.{le32, le64, words}
 use Rattle.rows.specs.declared.Laid.{Laid}
-use Rattle.rows.specs.declared.Row.{Row}
 
 -- ## A row
 
@@ -30,6 +29,14 @@ width d = min 62 (larger 3 (needed d))
 
 unfoldable pub rowLength : Definition → ℕ
 rowLength d = 24 + 4 * width d
+
+-- what it says of a frame: its letter, iteration, place and time, and the values that it shows; what a frame does not have is 0
+pub record Row : Type 0 where
+  pub letter : ℕ
+  pub iteration : ℕ
+  pub place : ℕ
+  pub time : ℕ
+  pub values : List ℕ
 
 abbrev pub row : (letter iteration place time : ℕ) → (values : List ℕ) → Row
 row l i p t vs = record { letter = l; iteration = i; place = p; time = t; values = vs }

@@ -7,20 +7,21 @@ ghost use lib.ListN.{length};
 ghost use lib.Seq.{sets};
 ghost use Rattle.section.specs.Refusals.{admitted};
 ghost use Rattle.rows.specs.Owes.{RowLengthOwes, NextOwes};
-ghost use Rattle.rows.specs.Rows.{width, row, rowLength, rowFor, rowBytes, rowsFrom, laid, laidOut};
+ghost use Rattle.rows.specs.Rows.{width, rowLength, rowFor, rowBytes, rowsFrom, laid, laidOut};
+ghost use Rattle.rows.specs.Lent.{rowBeside};
+use calls::quick::step_in;
 use plan::Definition;
 use section::Answer;
 use section::Check;
 use section::Refusal;
 use section::Walk;
 
-// What a row says of a frame: its letter, iteration, place and time, and the values that it shows. What a frame does not have is 0.
-pub struct Row {
+// What a row says of a frame before its values: its letter, iteration, place and time. What a frame does not have is 0.
+pub struct Heading {
     pub letter: u32,
     pub iteration: u32,
     pub place: usize,
     pub time: u64,
-    pub values: [u32; 62],
 }
 
 // How many rows were laid out, and the walk behind them; or why none was.
@@ -51,53 +52,51 @@ pub fn row_length(d: Definition) -> usize
     24 + 4 * width(d)
 }
 
-fn row_with(letter: u32, iteration: u32, place: usize, time: u64, values: [u32; 62]) -> Row
-    ensures { λ r. ⌜ r ≡ row letter iteration place time values ⌝ }
+fn headed(letter: u32, iteration: u32, place: usize, time: u64) -> Heading
+    ensures { λ r. ⌜ r ≡ record { letter = letter; iteration = iteration; place = place; time = time } ⌝ }
 {
-    Row {
+    Heading {
         letter,
         iteration,
         place,
         time,
-        values,
     }
 }
 
 // An event shows its type and both its numbers in the places of the fields.
-fn row_for(answer: Answer, values: [u32; 62]) -> Row
-    ensures { λ r. ⌜ r ≡ rowFor answer values ⌝ }
+fn row_for(answer: Answer, values: &mut [u32; 62]) -> Heading
+    ensures { λ r. ⌜ rowBeside r (now (values .exit)) ≡ rowFor answer (now (values .entry)) ⌝ }
 {
     match answer {
-        Answer::Passed => row_with(0, 0, 0, 0, values),
-        Answer::Rejected(_, _) => row_with(0, 0, 0, 0, values),
+        Answer::Passed => headed(0, 0, 0, 0),
+        Answer::Rejected(_, _) => headed(0, 0, 0, 0),
         Answer::Event(x) => {
-            let mut shown = values;
-            shown[0] = x.event.code as u32;
-            shown[1] = x.event.first;
-            shown[2] = x.event.second;
-            row_with(69, 0, x.at, 0, shown)
+            values[0] = x.event.code as u32;
+            values[1] = x.event.first;
+            values[2] = x.event.second;
+            headed(69, 0, x.at, 0)
         }
-        Answer::Intra(x) => row_with(73, x.iteration, x.at, x.time, values),
-        Answer::Inter(x) => row_with(80, x.iteration, x.at, x.time, values),
-        Answer::Slow(x) => row_with(83, 0, x.at, 0, values),
-        Answer::Over(_) => row_with(0, 0, 0, 0, values),
-        Answer::Refused(_) => row_with(0, 0, 0, 0, values),
+        Answer::Intra(x) => headed(73, x.iteration, x.at, x.time),
+        Answer::Inter(x) => headed(80, x.iteration, x.at, x.time),
+        Answer::Slow(x) => headed(83, 0, x.at, 0),
+        Answer::Over(_) => headed(0, 0, 0, 0),
+        Answer::Refused(_) => headed(0, 0, 0, 0),
     }
 }
 
-fn put_row(out: &mut [u8], at: usize, n: usize, r: Row)
+fn put_row(out: &mut [u8], at: usize, n: usize, r: Heading, values: &[u32; 62])
     requires { ⌜ (n ≤ 62) × (at + (24 + 4 * n) ≤ length (now out)) ⌝ }
-    ensures { λ _. ⌜ now (out .exit) ≡ sets (now (out .entry)) at (rowBytes n r) ⌝ }
+    ensures { λ _. ⌜ now (out .exit) ≡ sets (now (out .entry)) at (rowBytes n (rowBeside r (now (values .entry)))) ⌝ }
 {
+    let all = &values[..];
     bytes::put32(out, at, r.letter);
     bytes::put32(out, at + 4, r.iteration);
     bytes::put64(out, at + 8, r.place as u64);
     bytes::put64(out, at + 16, r.time);
-    let values = r.values;
-    bytes::put_values(out, at + 24, &values[..n]);
+    bytes::put_values(out, at + 24, &all[..n]);
 }
 
-// The rows of an admitted walk. The state is checked once, and a barren search is made once.
+// The rows of an admitted walk. The state is checked once, and a barren search is made once; the values of its frames stay in the same rooms throughout.
 fn lay(d: Definition, w: Walk, s: &[u8], out: &mut [u8]) -> Laid
     requires { ⌜ admitted d (length (now s)) w ≡ true ⌝ }
     ensures { λ r. ⌜ laid r (now (out .exit)) ≡ laidOut (rowsFrom d (now (s .entry)) (length (now (out .entry)) / rowLength d) w) (now (out .entry)) ⌝ }
@@ -105,33 +104,48 @@ fn lay(d: Definition, w: Walk, s: &[u8], out: &mut [u8]) -> Laid
     let n = width(d);
     let size = row_length(d);
     let room = out.len() / size;
-    let mut walk = w;
+    let history = w.history;
+    let last_frame = history.last;
+    let older_frame = history.older;
+    let mut last = last_frame.values;
+    let mut older = older_frame.values;
+    let mut raws = [0u32; 62];
+    let mut values = [0u32; 62];
+    let mut walk = w.light();
     let mut barren = false;
     let mut count: usize = 0;
     let mut at: usize = 0;
     while count < room {
-        let mut values = [0u32; 62];
-        let called = calls::step(d, walk, s, barren, &mut values);
-        let looked = called.looked;
-        let answer = looked.answer;
-        let next = looked.walk;
+        let stepped = step_in(
+            d,
+            walk,
+            s,
+            barren,
+            &mut last,
+            &mut older,
+            &mut raws,
+            &mut values,
+        );
+        let answer = stepped.answer;
+        let next = stepped.walk;
         if answer.is_over() {
             return Laid {
                 check: Check::Pass,
                 count,
-                walk: next,
+                walk: next.with(last, older),
             };
         }
-        put_row(out, at, n, row_for(answer, values));
+        let head = row_for(answer, &mut values);
+        put_row(out, at, n, head, &values);
         walk = next;
-        barren = called.barren;
+        barren = stepped.barren;
         at += size;
         count += 1;
     }
     Laid {
         check: Check::Pass,
         count,
-        walk,
+        walk: walk.with(last, older),
     }
 }
 

@@ -3,8 +3,10 @@ pub mod Alike
 pub mod Checks
 pub mod Effects
 pub mod Filling
+pub mod Lent
 pub mod Looks
 pub mod One
+pub mod Padded
 pub mod Paper
 pub mod Rooms
 pub mod Stays

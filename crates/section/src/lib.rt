@@ -19,6 +19,7 @@ use reader::Kind;
 
 mod accepted;
 pub mod counting;
+pub mod quick;
 pub mod refusals;
 
 // How a walk ended, if it has. A cut names the kind and the place of the trial that the data ended in.

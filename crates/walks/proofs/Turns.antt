@@ -6,14 +6,18 @@ use mathlib.Core.Path.{_≡_, refl, sym, ap, ap₂, _∙_}
 use native.Mathlib.Omega.{arith}
 use lib.ListN.{length, take}
 use Rattle.plan.specs.declared.Definition.{Definition}
+use Rattle.section.specs.declared.Answer.{Answer}
+use Rattle.section.specs.declared.quick.Light.{Light}
 use Rattle.section.specs.declared.Walk.{Walk}
-use Rattle.section.specs.Answers.{Told, handed, isOver, paperOf, handsOut}
+use Rattle.section.specs.Answers.{Told, told, handed, isOver, paperOf, handsOut}
+use Rattle.section.specs.Lent.{lightOf, walkOf}
 use Rattle.section.specs.Refusals.{admitted}
 use Rattle.section.specs.Walk.{Outcome}
 use Rattle.calls.specs.declared.Called.{Called}
 use Rattle.calls.specs.Call.{left, called}
 use Rattle.calls.specs.Steps.{Steps}
-use Rattle.calls.proofs.Turns.{Ready, ready-first, ready-sound, answer-is, walk-is, values-are, ready-again, ready-less}
+use Rattle.calls.proofs.Lent.{ready-light}
+use Rattle.calls.proofs.Turns.{Ready, ready-sound, answer-is, walk-is, values-are, ready-again, ready-less}
 use Rattle.walks.specs.declared.Goal.{Goal}
 use Rattle.walks.specs.Reached.{Reaches}
 use Rattle.walks.specs.Walks.{isReached, isLast, walked}
@@ -33,8 +37,10 @@ pub record Turn (goal : Goal) (d : Definition) (s : List ℕ) (w₀ w : Walk) (b
   pub ready : Ready d s w barren
   pub same : walked goal d s w ≡ walked goal d s w₀
 
-pub turn-first : (goal : Goal) (d : Definition) (s : List ℕ) (w : Walk) → admitted d (length s) w ≡ true → length (w .tally .counts) ≡ 4 → Turn goal d s w w false
-turn-first goal d s w h four = record { ready = ready-first d s w (record { so = h; four = four }); same = refl }
+-- the first call of a walk that is taken apart
+pub turn-first : (goal : Goal) (d : Definition) (s : List ℕ) (w : Walk) {l : Light} → l ≡ lightOf w → admitted d (length s) w ≡ true → length (w .tally .counts) ≡ 4
+    → Turn goal d s (walkOf l (w .history .last .values) (w .history .older .values)) (walkOf l (w .history .last .values) (w .history .older .values)) false
+turn-first goal d s w e h four = record { ready = ready-light d s w e (record { so = h; four = four }); same = refl }
 
 module _ (goal : Goal) (d : Definition) (s : List ℕ) {w₀ w : Walk} {barren : Bool} (t : Turn goal d s w₀ w barren) {out after : List ℕ} {r : Called}
     (st : Steps d w s out r after) {last : Bool} (asked : last ≡ (isOver (r .looked .answer) || isReached goal (r .looked .walk .tally))) where
@@ -62,3 +68,13 @@ module _ (goal : Goal) (d : Definition) (s : List ℕ) {w₀ w : Walk} {barren :
         tells = ap emptied (st .tells) ∙ handed-none (called d s w) out ∙ ap (λ o. handed o []) end;
         fields = ap₂ take (ap (handsOut d) (answer-is d s st)) (values-are d s st) ∙ begins ∙ ap (λ o. o .fields) end;
       }
+
+-- what it reached, of the walk that was taken apart and put together again
+pub reaches-whole : (goal : Goal) (d : Definition) (s : List ℕ) {w₀ w : Walk} → w₀ ≡ w → {a : Answer} {n : ℕ} {v v' : Walk} {values : List ℕ} → v' ≡ v
+    → Reaches goal d w₀ s (record { looked = record { answer = a; trials = n; walk = v }; values = values })
+    → Reaches goal d w s (record { looked = record { answer = a; trials = n; walk = v' }; values = values })
+reaches-whole goal d s whole {a} {n} same x =
+    record {
+      tells = ap (λ v. told (record { answer = a; trials = n; walk = v }) []) same ∙ x .tells ∙ ap (λ w. handed (walked goal d s w) []) whole;
+      fields = x .fields ∙ ap (λ w. walked goal d s w .fields) whole;
+    }

@@ -9,6 +9,7 @@ ghost use Rattle.section.specs.Answers.{isOver};
 ghost use Rattle.walks.specs.Owes.{ThroughOwes, CountOwes, FieldsOfOwes, FillOwes};
 ghost use Rattle.walks.specs.Reached.{Reaches};
 ghost use Rattle.walks.specs.Walks.{countedAt, isReached};
+use calls::quick::step_in;
 use plan::Definition;
 use section::Answer;
 use section::Check;
@@ -77,20 +78,39 @@ fn walk_to(d: Definition, w: Walk, s: &[u8], goal: Goal) -> Reached
     requires { ⌜ admitted d (length (now s)) w ≡ true ⌝ }
     ensures { λ r. ⌜ Reaches goal d w (now (s .entry)) r ⌝ }
 {
-    let mut walk = w;
+    let history = w.history;
+    let last_frame = history.last;
+    let older_frame = history.older;
+    let mut last = last_frame.values;
+    let mut older = older_frame.values;
+    let mut raws = [0u32; 62];
+    let mut walk = w.light();
     let mut barren = false;
     let mut values = [0u32; 62];
     loop {
-        let called = calls::step(d, walk, s, barren, &mut values);
-        let looked = called.looked;
-        let answer = looked.answer;
-        let next = looked.walk;
+        let stepped = step_in(
+            d,
+            walk,
+            s,
+            barren,
+            &mut last,
+            &mut older,
+            &mut raws,
+            &mut values,
+        );
+        let answer = stepped.answer;
+        let next = stepped.walk;
         let tally = next.tally;
         if is_last(goal, answer, tally) {
+            let looked = Looked {
+                answer,
+                trials: tally.trials,
+                walk: next.with(last, older),
+            };
             return Reached { looked, values };
         }
         walk = next;
-        barren = called.barren;
+        barren = stepped.barren;
     }
 }
 

@@ -10,4 +10,4 @@ rejected-spec =
     (tie.spec
     (λ c κs. search needs)
     (λ c κs. search needs)
-    (λ c. rejected-by _ (c .without-numbers .ensures) (c .before .search .ensures)))
+    (λ c. rejected-by _ (c .without-numbers .ensures) (c .before .before .search .ensures)))

@@ -12,21 +12,35 @@ try-event-spec =
     (λ c κs. search needs)
     (λ c. search needs)
     (λ c κs. search needs)
-    (λ c. forward (event-told _ _ (c .before .before .before .before .before .before .before .read .ensures) (c .before .before .before .before .before .reading .given .1)))
+    (λ c.
+    let a = c .before .before .before .before .before in
+    let b = a .before .before in
+    forward (event-told _ _ (b .read .ensures) (a .reading .given .1)))
     (λ c κs. search needs)
     (λ c.
-    let closed = c .before .before .before .before in
-    let told = event-told _ _ (closed .before .before .before .before .read .ensures) (closed .before .before .reading .given .1) in
-    accepted _ _ _ _ told (closed .is-closed .ensures) (c .before .before .before .if1 .taken) (c .without-numbers .ensures))
+    let a = c .before .before .before .before in
+    let b = a .before in
+    let e = b .before .before in
+    let f = e .before .before in
+    accepted _ _ _ _ (event-told _ _ (f .read .ensures) (e .reading .given .1)) (b .is-closed .ensures) (a .if1 .taken) (c .without-numbers .ensures))
     (λ c κs. search needs)
     (λ c. search needs)
     (λ c κs. search needs)
     (λ c. search needs)
     (λ c κs. search needs)
     (λ c.
-    let closed = c .before .before in
-    let read = closed .before .before .before .before in
-    let told = event-told _ _ (read .read .ensures) (closed .before .before .reading .given .1) in
-    not-closed _ _ _ _ told (closed .is-closed .ensures) (c .before .if1 .left) (read .before .get-restore-point .ensures) (c .rejected .ensures))
-    (λ c. cut-off _ _ _ (event-cut _ _ (c .before .before .before .read .ensures) (c .before .enum-told .given .1)) (c .without-numbers2 .ensures))
-    (λ c. no-frame _ _ _ _ (event-corrupt _ _ (c .before .before .before .read .ensures) (c .before .enum-told2 .given .1)) (c .before .before .before .before .get-restore-point .ensures) (c .rejected2 .ensures)))
+    let a = c .before .before in
+    let b = a .before in
+    let e = b .before .before in
+    let f = e .before .before in
+    let g = f .before in
+    not-closed _ _ _ _ (event-told _ _ (f .read .ensures) (e .reading .given .1)) (b .is-closed .ensures) (a .if1 .left) (g .get-restore-point .ensures) (c .rejected .ensures))
+    (λ c.
+    let a = c .before .before in
+    let b = a .before .before in
+    cut-off _ _ _ (event-cut _ _ (b .read .ensures) (a .enum-told .given .1)) (c .without-numbers2 .ensures))
+    (λ c.
+    let a = c .before .before in
+    let b = a .before .before in
+    let e = b .before in
+    no-frame _ _ _ _ (event-corrupt _ _ (b .read .ensures) (a .enum-told2 .given .1)) (e .get-restore-point .ensures) (c .rejected2 .ensures)))

@@ -1,56 +1,17 @@
--- `frame::intra` meets its contract: the fields get the last frame's values and no older ones. Assumes nothing.
-use mathlib.Core.Path.{refl}
+-- `frame::intra` meets its contract: it lends what it has to `intra_in`. Assumes nothing.
 use borrow.Author.Needs.{needs}
-use native.Mathlib.Omega.{arith}
-use lib.ListN.{length-take}
-use Rattle.plan.specs.Plan.{shape, rules}
-use Rattle.plan.proofs.Rooms.{main-rooms}
-use Rattle.frame.specs.Frames.{intraFields}
-use Rattle.frame.proofs.Rooms.{raw-rooms, frame-rooms}
-use Rattle.frame.proofs.Whole.{main-values-are, intra-is}
+use Rattle.frame.proofs.Whole.{intra-whole}
 use Rattle.frame.proofs.intra.Statement.{statement}
 use Rattle.frame.proofs.intra.Tie as tie
 
 pub intra-spec : {M : Type 1} → statement M
-unfolding intraFields shape rules
 intra-spec =
     tie.close
     (tie.spec
     (λ c κs. search needs)
     (λ c κs. search needs)
     (λ c κs. search needs)
-    (λ c κs. search needs)
     (λ c.
-    let s = c .before .before .before .before .before .before .before .before .before .before in
-    omega (arith, main-rooms (s .args .d .main) (s .good .0 .1 .1 .0)))
-    (λ c.
-    let s = c .before .before .before .before .before .before .before .before .before .before .before in
-    simp length-take (omega (arith, main-rooms (s .args .d .main) (s .good .0 .1 .1 .0))))
-    (λ c.
-    let s = c .before .before .before .before .before .before .before .before .before .before .before in
-    omega (arith, main-rooms (s .args .d .main) (s .good .0 .1 .1 .0)))
-    (λ c.
-    let s = c .before .before .before .before .before .before .before .before .before .before .before .before in
-    simp length-take (omega (arith, main-rooms (s .args .d .main) (s .good .0 .1 .1 .0))))
-    (λ c.
-    let s = c .before .before .before .before .before .before .before .before .before .before .before .before .before in
-    omega (arith, raw-rooms (s .args .raw) (s .good .1 .1 .0)))
-    (λ c.
-    let s = c .before .before .before .before .before .before .before .before .before .before .before .before .before .before in
-    omega (arith, frame-rooms (s .args .last) (s .good .1 .0)))
-    (λ c. search needs)
-    (λ c. search needs)
-    (λ c κs.
-    let s = c .before .before .before .before .before .before .before .before .before .before .before .before .before .before .before .before in (
-      simp length-take (omega (arith, main-rooms (s .args .d .main) (s .good .0 .1 .1 .0))),
-      (omega (arith, raw-rooms (s .args .raw) (s .good .1 .1 .0), frame-rooms (s .args .last) (s .good .1 .0)), refl),
-    ))
-    (λ c. search needs)
-    (λ c.
-    let k = c .before .before .before .before .before .before .before .before .before in
-    let l = k .before .before .before .before .before in
-    let s = l .before .before .before .before .before in
-    let rooms = main-rooms (s .args .d .main) (s .good .0 .1 .1 .0) in
-    intra-is (s .args .d) (s .args .last) (s .args .raw) (l .is-there .ensures)
-    (main-values-are (s .args .d .main) _ _ _ _ _ _ (c .before .before .values-of .ensures) (k .before .before .fields2 .ensures) (k .before .lesser .ensures) (k .lesser2 .ensures)
-    (rooms .intra-predictors, rooms .intra-encodings))))
+    let h = c .before .before .before .before .before in
+    let s = h .before .before .before in
+    intra-whole (s .args .d) (s .args .last) (s .args .raw) (h .head .ensures) (c .before .intra-in .ensures) (c .with .ensures)))

@@ -1,14 +1,15 @@
--- `raws::slow` meets its contract: corrupt without slow lists, else the fields. Assumes nothing.
+-- `raws::slow` meets its contract: the fields in rooms of its own. Assumes nothing.
+use mathlib.Core.Path.{_∙_}
+use Rattle.plan.specs.Plan.{shape}
 use borrow.Author.Needs.{needs}
-use Rattle.raws.proofs.Frames.{slow-none, slow-is}
 use Rattle.raws.proofs.slow.Statement.{statement}
 use Rattle.raws.proofs.slow.Tie as tie
 
 pub slow-spec : {M : Type 1} → statement M
+unfolding shape
 slow-spec =
     tie.close
     (tie.spec
     (λ c κs. search needs)
-    (λ c. slow-none _ _ _ (c .stopped .ensures) (c .before .if1 .taken))
     (λ c κs. search needs)
-    (λ c. slow-is _ _ _ (c .slow-fields .ensures) (c .before .before .if1 .left)))
+    (λ c. c .joined .ensures ∙ c .before .slow-into .ensures))

@@ -2,7 +2,7 @@
 use native.Mathlib.Omega.{arith}
 use lib.ListN.{length-take}
 use borrow.Author.Needs.{needs}
-use Rattle.rows.proofs.OneRow.{put-row-all, row-values}
+use Rattle.rows.proofs.OneRow.{put-row-all}
 use Rattle.rows.proofs.put_row.Statement.{statement}
 use Rattle.rows.proofs.put_row.Tie as tie
 
@@ -18,19 +18,15 @@ put-row-spec =
     (λ c. search needs)
     (λ c κs. search needs)
     (λ c. search needs)
-    (λ c.
-    let e = c .before .before .before .before .before .before .before .before .before .before .before .before .before .before .before .before .before .before .before in
-    omega (arith, row-values (e .args .r) (e .good .1 .1 .1 .0)))
-    (λ c.
-    let e = c .before .before .before .before .before .before .before .before .before .before .before .before .before .before .before .before .before .before .before .before in
-    simp length-take (omega (arith, row-values (e .args .r) (e .good .1 .1 .1 .0))))
+    (λ c. simp length-take (omega arith))
     (λ c κs.
-    let e = c .before .before .before .before .before .before .before .before .before .before .before .before .before .before .before .before .before .before .before .before in
-    simp length-take (omega (arith, row-values (e .args .r) (e .good .1 .1 .1 .0))))
+    let a = c .before .before .before .before .before .before .before .before .before .before .before .before .before .before .before .before .before .before in
+    simp length-take (omega (arith, a .all .given)))
     (λ c. search needs)
     (λ c.
-    let v = c .before .before in
-    let d = v .before .before .before .before .before .before in
-    let p = d .before .before .before .before in
-    let i = p .before .before .before .before in
-    put-row-all _ _ _ _ (i .before .before .before .before .put32 .ensures) (i .put322 .ensures) (p .put64 .ensures) (d .put642 .ensures) (v .put-values .ensures)))
+    let a = c .before .before in
+    let b = a .before .before .before .before .before in
+    let e = b .before .before .before .before in
+    let f = e .before .before .before .before in
+    let g = f .before .before .before .before in
+    put-row-all _ _ _ _ (g .put32 .ensures) (f .put322 .ensures) (e .put64 .ensures) (b .put642 .ensures) (a .put-values .ensures)))
