@@ -87,8 +87,7 @@ lay-spec =
     let w = v .before .before .before .before .before in
     let x = w .before in
     let y = x .before .before .before .before .before .before .before in
-    let z = y .before in
-    (
+    let z = y .before in (
       search needs,
       at-more _ _ _ (x .loop .inv .1),
       search needs,
