@@ -67,18 +67,18 @@ def symptom(rust, here):
 
 
 def judge(lines, section, flags, rust, library):
-    """The verdict on a log, by what the Rust and the library say of it."""
+    """The verdict on a log, by what the Rust and the library say of it. The reference tells which trials lie outside, and the Rust's words for a refusal; equal are the Rust and the library."""
     known = reference.lists_of(lines)
     here = reference.answer(known, section)
     wrong = [(LIBRARY, symptom(library, here.text))] if library != here.text else []
     why, place, pure = domain.log_departure(lines, section, here.trials, flags)
     row = why or (REFUSED if known.refused else INSIDE)
-    if rust == here.text or known.refused and rust == reference.rust_words(known, lines):
+    if rust == library or known.refused and library == here.text and rust == reference.rust_words(known, lines):
         return Verdict(row, tuple(wrong), len(before(here.text.splitlines(), place)) if why and place else 0)
-    wrong.append((row, symptom(rust, here.text) if pure else MIXED))
-    ours = before(here.text.splitlines(), place) if why and place else []
+    wrong.append((row, symptom(rust, library) if pure else MIXED))
+    ours = before(library.splitlines(), place) if why and place else []
     if ours and before(rust.splitlines(), place) != ours:
-        wrong.append((BEFORE, symptom(rust, here.text)))
+        wrong.append((BEFORE, symptom(rust, library)))
     return Verdict(row, tuple(wrong), len(ours))
 
 

@@ -114,12 +114,13 @@ class Reducer:
         return None
 
     def reduced(self, case, kind):
-        """The smallest case found, what the other side says of it, and what the reference says."""
+        """The smallest case found, and what the two sides say of it: the Rust and the library, or the library and the reference."""
         while True:
             smaller = self.stepped(case, kind)
             if smaller is None:
                 break
             case = smaller
-        other = self.driver if kind[0] == judge.LIBRARY else self.rust(case.flags)
-        here = reference.answer(reference.lists_of(case.lines), case.section).text
-        return case, other.answers([case.lines + case.section])[0], here
+        library = self.driver.answers([case.lines + case.section])[0]
+        if kind[0] == judge.LIBRARY:
+            return case, library, reference.answer(reference.lists_of(case.lines), case.section).text
+        return case, self.rust(case.flags).answers([case.lines + case.section])[0], library

@@ -54,7 +54,8 @@ def show_case(case, other, here, symptom, row):
     listed = case.flags or domain.lists_departure(case.lines, ()) or reference.lists_of(case.lines).refused
     lines = by_lines(case.lines) if listed else reference.short_form(case.lines)
     print(f"    {symptom}: {lines[:600]}; section {case.section.hex(' ')[:300] or 'empty'}{''.join(' ' + flag for flag in case.flags)}")
-    print(f"        {'the library' if row == judge.LIBRARY else 'the Rust'}: {in_short(other)}\n        here: {in_short(here)}", flush=True)
+    sides = ("the library", "the reference") if row == judge.LIBRARY else ("the Rust", "here")
+    print(f"        {sides[0]}: {in_short(other)}\n        {sides[1]}: {in_short(here)}", flush=True)
 
 
 def show_smallest(row, everything, asked):
