@@ -1,8 +1,8 @@
 -- The looks of a walk in parts: before each the rooms of the two frames hold what they held at first. The rooms for the fields are as if they were empty.
 use Prim.Native.Nat.{ℕ}
 use mathlib.Core.Bool.{Bool, false}
-use mathlib.Core.List.{List, []}
-use mathlib.Core.Path.{_≡_, refl, sym, ap, ap₂, _∙_}
+use mathlib.Core.List.{List}
+use mathlib.Core.Path.{_≡_, refl, ap, ap₂, _∙_}
 use lib.ListN.{length, replicate}
 use Rattle.plan.specs.declared.Definition.{Definition}
 use Rattle.history.specs.declared.Heads.{Heads}

@@ -1,6 +1,5 @@
 -- `history::copy` meets its contract. The invariant: the values before `i` are copied. Assumes nothing.
 use Prim.Native.Nat.{_-_}
-use mathlib.Core.Path.{sym, _∙_}
 use native.Mathlib.Omega.{arith}
 use lib.ListN.{length}
 use borrow.Author.Needs.{needs}

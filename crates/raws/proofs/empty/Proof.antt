@@ -1,7 +1,7 @@
 -- `raws::empty` meets its contract. The invariant: the rooms before `i` are empty. Assumes nothing.
 use Prim.Native.Nat.{_-_}
 use native.Mathlib.Omega.{arith}
-use lib.ListN.{length, length-set}
+use lib.ListN.{length}
 use borrow.Author.Needs.{needs}
 use Rattle.raws.proofs.Emptied.{Emptied, emptied-first, emptied-on, emptied-all}
 use Rattle.raws.proofs.empty.Statement.{statement}

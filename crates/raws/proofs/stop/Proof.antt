@@ -1,6 +1,6 @@
 -- `raws::stop` meets its contract: empty rooms, and why reading stopped. It requires 62 rooms.
 use mathlib.Core.Path.{ap, _∙_}
-use lib.ListN.{replicate, length-replicate}
+use lib.ListN.{replicate}
 use Rattle.raws.specs.Place.{beside, stoppedAt}
 use Rattle.raws.specs.Raws.{raw}
 use borrow.Author.Needs.{needs}

@@ -1,7 +1,7 @@
 -- `raws::groups::read_into` meets its contract. The invariant is `Held`; a turn is one number by itself, or one group. It requires 62 rooms, and no more
 -- fields than these.
 use Prim.Native.Nat.{_-_}
-use mathlib.Core.Path.{ap, sym, _∙_}
+use mathlib.Core.Path.{ap, _∙_}
 use native.Mathlib.Omega.{arith}
 use lib.ListN.{length, length-take, replicate}
 use borrow.Author.Needs.{needs}
