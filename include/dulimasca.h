@@ -8,6 +8,9 @@
  * call. Bytes need no alignment; `told` has that of a uint64_t.
  * Nothing else: whatever the bytes are, every call ends, answers by a number, and writes no further than is said here.
  *
+ * Licence: MIT OR Apache-2.0 (LICENSE-MIT, LICENSE-APACHE). The library translates parts of blackbox-log: NOTICE, which has that crate's
+ * licence texts, goes with every copy of it.
+ *
  * A REFUSAL is answered by document 01's own number; told[0] is its place, and nothing but `told` is written: a state stays as it was.
  *    1        a list is missing: told[0] is 0 for names, 1 and 2 for intra and inter predictors, 3 and 4 for intra and inter encodings,
  *             5 for signs; a slow definition has 0, 1, 3 and 5

@@ -1,4 +1,4 @@
--- One call: it looks until a look has something to say (document 01, "The walk").
+-- One call: it looks until a look has something to say (document 01, "The walk"; that a call goes on behind what is in vain is our reading).
 use Prim.Native.Nat.{ℕ, zero, suc, _-_}
 use mathlib.Core.Bool.{Bool, true, false, cond}
 use mathlib.Core.List.{List}

@@ -1,24 +1,8 @@
--- Every worked walk is what it says, by computation: a promise's other side computes to what the case says.
-use Prim.Native.Nat.{ℕ}
-use mathlib.Core.List.{List}
-use mathlib.Core.Path.{_≡_, refl}
-use Rattle.section.specs.declared.Looked.{Looked}
-use Rattle.section.specs.Answers.{Told, told}
-use Rattle.cases.specs.Walks.{Hold, sessions, calls, host}
-use Rattle.cases.proofs.Unfolded.{walkOpen, wholeOpen}
+-- Every worked session is what it says, by computation.
+use mathlib.Core.Path.{refl}
+use Rattle.cases.specs.Walks.{Hold, sessions}
+use Rattle.cases.proofs.Unfolded.{walkOpen}
 
 pub sessions-worked : Hold sessions
 unfolding sessions walkOpen
 sessions-worked = (refl, (refl, (refl, (refl, (refl, (refl, (refl, (refl, (refl, (refl, (refl, (refl, (refl, (refl, (refl, tt)))))))))))))))
-
--- what an answer owes is what it tells
-abbrev owed : {t : Told} (r : Looked) (after : List ℕ) → told r after ≡ t → told r after ≡ t
-owed r after owes = owes
-
-pub calls-worked : Hold calls
-unfolding calls wholeOpen
-calls-worked = (owed, (owed, (owed, (owed, (owed, (owed, (owed, (owed, (owed, (owed, (owed, (owed, (owed, (owed, (owed, (owed, (owed, (owed, (owed, (owed, (owed, (owed, (owed, (owed, (owed, (owed, tt))))))))))))))))))))))))))
-
-pub host-worked : Hold host
-unfolding host wholeOpen
-host-worked = ((λ r owes. owes), (owed, (owed, (owed, tt))))

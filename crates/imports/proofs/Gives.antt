@@ -18,7 +18,7 @@ use Rattle.section.specs.declared.Refusal.the-variants.{TooShort, Unsound}
 use Rattle.section.specs.declared.Walk.{Walk}
 use Rattle.calls.proofs.Turns.{Kept, called-kept}
 use Rattle.sizes.proofs.Called.{called-sized}
-use Rattle.sizes.proofs.Sized.{WalkSized}
+use Rattle.sizes.specs.Sized.{WalkSized}
 use Rattle.store.specs.Definition.{isDefinition, definitionAt}
 use Rattle.store.specs.State.{isState, walkAt}
 use Rattle.store.proofs.KeptState.{stored-walk, stored-is-state}

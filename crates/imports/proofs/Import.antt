@@ -14,7 +14,7 @@ use Rattle.section.specs.Walk.{start}
 use Rattle.section.proofs.Stays.{start-admitted}
 use Rattle.calls.proofs.Turns.{Kept}
 use Rattle.sizes.proofs.Called.{start-sized}
-use Rattle.sizes.proofs.Sized.{WalkSized}
+use Rattle.sizes.specs.Sized.{WalkSized}
 use Rattle.store.specs.Definition.{isDefinition, definitionAt}
 use Rattle.store.specs.State.{isState, walkAt, withState}
 use Rattle.store.proofs.KeptState.{stored-walk, stored-is-state, state-sized}

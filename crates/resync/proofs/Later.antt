@@ -17,23 +17,13 @@ use Rattle.section.specs.declared.Answer.{Answer}
 use Rattle.section.specs.declared.Answer.the-variants.{Intra, Inter}
 use Rattle.section.specs.declared.MainAnswer.{MainAnswer}
 use Rattle.resync.specs.Demand3.{IntraAlone, InterByLast}
-use Rattle.resync.specs.From.{answerFrom, from, Same, outlineOf, outline}
+use Rattle.resync.specs.From.{answerFrom, from, Same, outline}
 use Rattle.resync.specs.Runs.{Shown, isIntra, isInter}
 use Rattle.resync.proofs.Answers.{outline-from, intra-no-inter}
 use Rattle.resync.proofs.Both.{Made, Both, other, intra, inter, framed}
+use Rattle.resync.proofs.Outline.{intra-bare, inter-bare}
 
 -- ## What is shown
-
--- in outline the past has no part in a main frame
-intra-bare : (d : Definition) (p : ℕ) (g g' : Past) (x : Raw)
-    → outline (framed (fields (d .main)) Intra p (intraFrame (shape d) (rules d) g x)) ≡ outline (framed (fields (d .main)) Intra p (intraFrame (shape d) (rules d) g' x))
-unfolding outlineOf intraFrame
-intra-bare d p g g' x = refl
-
-inter-bare : (d : Definition) (p : ℕ) (g g' : Past) (x : Raw)
-    → outline (framed (fields (d .main)) Inter p (interFrame (shape d) (rules d) g x)) ≡ outline (framed (fields (d .main)) Inter p (interFrame (shape d) (rules d) g' x))
-unfolding outlineOf
-inter-bare d p g g' x = refl
 
 -- two pasts that say the same of both frames
 past-path : (g h : Past) → g .last ≡ h .last → g .older ≡ h .older → g ≡ h

@@ -2,6 +2,7 @@ pub mod Answers
 pub mod Level
 pub mod Both
 pub mod InStep
+pub mod Outline
 pub mod Later
 pub mod Bytes
 pub mod Resync

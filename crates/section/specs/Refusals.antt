@@ -1,4 +1,4 @@
--- Refusals 10 and 11: both come before any answer, on a finished walk too (document 01, the table under "Definition lists").
+-- Refusals 10 and 11: both come before any answer, on a finished walk too (document 01, the table under "Definition lists" and the paragraph behind it).
 use Prim.Native.Nat.{ℕ, _+_}
 use mathlib.Core.Bool.{Bool, cond, _&&_}
 use lib.Dec.{eqb, ltb, leb}

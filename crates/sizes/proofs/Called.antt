@@ -21,7 +21,7 @@ use Rattle.section.specs.Walk.{Outcome, start, settled, over, ifGoing, tick}
 use Rattle.calls.specs.Call.{isSaid, left, called}
 use Rattle.calls.proofs.Turns.{Kept, tick-kept}
 use Rattle.calls.proofs.Until.{until-keeps}
-use Rattle.sizes.proofs.Sized.{EndingSized, WalkSized}
+use Rattle.sizes.specs.Sized.{EndingSized, WalkSized}
 use Rattle.sizes.proofs.Frames.{RawSized, HistorySized, no-frame-sized, history-sized}
 use Rattle.sizes.proofs.Looks.{look-sized}
 use Rattle.sizes.proofs.Tallies.{ending-sized, tally-sized}

@@ -21,7 +21,7 @@ use Rattle.extent.specs.declared.Found.the-variants as found
 use Rattle.extent.specs.declared.Seen.{Seen}
 use Rattle.extent.specs.declared.Seen.the-variants.{Nothing, Passed, Rejected, Cutoff, Accepted}
 use Rattle.section.specs.Walk.{historyWith, historyAfter}
-use Rattle.sizes.proofs.Sized.{Is32, Is64, Each, FrameSized}
+use Rattle.sizes.specs.Sized.{Is32, Is64, Each, FrameSized}
 use Rattle.sizes.proofs.Lists.{each-below, padded-each}
 
 -- the iteration and the time that were read

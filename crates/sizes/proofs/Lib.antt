@@ -1,4 +1,3 @@
-pub mod Sized
 pub mod Lists
 pub mod Frames
 pub mod Looks

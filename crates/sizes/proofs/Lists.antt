@@ -5,7 +5,7 @@ use native.Mathlib.Omega.{arith}
 use lib.ListN.{getD, set, replicate}
 use lib.Seq.{sets}
 use Rattle.reader.specs.Place.{padded}
-use Rattle.sizes.proofs.Sized.{Is32, Each}
+use Rattle.sizes.specs.Sized.{Is32, Each}
 
 -- from a bound at each place
 pub each-below : {n : ℕ} (vs : List ℕ) → ((i : ℕ) → getD vs i 0 < n) → Each (λ v. v < n) vs

@@ -16,7 +16,7 @@ use Rattle.section.specs.declared.Walk.{Walk}
 use Rattle.section.specs.Refusals.{admitted}
 use Rattle.section.specs.Tally.{endedBy, endingAfter}
 use Rattle.section.proofs.Admitted.{admitted-place, admitted-few, admitted-fits}
-use Rattle.sizes.proofs.Sized.{Is64, EndingSized, TallySized}
+use Rattle.sizes.specs.Sized.{Is64, EndingSized, TallySized}
 use Rattle.sizes.proofs.Lists.{each-below}
 
 -- ## The ending behind a look

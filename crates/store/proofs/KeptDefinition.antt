@@ -19,7 +19,7 @@ use Rattle.plan.proofs.HeaderNumber as header
 use Rattle.plan.proofs.Rooms.{MainRooms, main-rooms}
 use Rattle.bytes.specs.Bytes.{le32, le64, num64}
 use Rattle.bytes.proofs.Round.{num-le64}
-use Rattle.sizes.proofs.Sized.{Is64}
+use Rattle.sizes.specs.Sized.{Is64}
 use Rattle.store.specs.Definition.{numberCode, numberOf, countBytes, mainBytes, slowBytes, definitionBytes, withDefinition, codesAt, definitionAt, isDefinition}
 use Rattle.store.proofs.Definitions.{SlowLists, slow-lists, number-given, length-counts, length-main, length-slow}
 

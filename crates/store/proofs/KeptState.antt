@@ -21,7 +21,7 @@ use Rattle.section.specs.declared.Tally.{Tally}
 use Rattle.section.specs.declared.Walk.{Walk}
 use Rattle.bytes.specs.Bytes.{le32, le64, words, num32, num64, nums}
 use Rattle.bytes.proofs.Round.{Bytes, Small, num-le, num-le64, nums-words, bytes-drop, num32-small, num64-small, nums-small, length-nums}
-use Rattle.sizes.proofs.Sized.{Is32, Is64, Each, EndingSized, FrameSized, TallySized, WalkSized}
+use Rattle.sizes.specs.Sized.{Is32, Is64, Each, EndingSized, FrameSized, TallySized, WalkSized}
 use Rattle.store.specs.State.{markCode, markOf, isMark, endingCode, cutPlace, cutBy, endingOf, isLetter, isEnding, frameBytes, frameAt, tallyBytes, tallyAt, stateBytes, withState, walkAt, isState}
 use Rattle.store.proofs.States.{length-frame, length-tally, state-all}
 
