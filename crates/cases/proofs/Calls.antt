@@ -13,4 +13,4 @@ owed r after owes = owes
 
 pub calls-worked : Hold calls
 unfolding calls wholeOpen
-calls-worked = (owed, (owed, (owed, (owed, (owed, (owed, (owed, (owed, (owed, (owed, (owed, (owed, (owed, (owed, (owed, (owed, (owed, (owed, (owed, (owed, (owed, (owed, (owed, (owed, (owed, (owed, tt))))))))))))))))))))))))))
+calls-worked = (owed, (owed, (owed, (owed, (owed, (owed, (owed, (owed, (owed, (owed, (owed, (owed, (owed, (owed, (owed, (owed, (owed, (owed, (owed, (owed, (owed, (owed, (owed, (owed, (owed, (owed, (owed, (owed, tt))))))))))))))))))))))))))))

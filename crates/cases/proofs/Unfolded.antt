@@ -67,12 +67,12 @@ framesOpen = tt
 
 -- a log's lists
 unfoldable pub listsOpen : Unit {0}
-unfolding plan.core plan.shape plan.rules plan.nothing sound.met sound.unmetFrom sound.unmetMain sound.unmetSlow
+unfolding plan.core plan.shape plan.rules plan.nothing sound.met sound.unmetFrom sound.unmetMain sound.unmetSlow sound.isInterval
     header.headerOf header.listsOf header.valueOf header.lastFrom header.newer lines.lines lines.bare lines.begins lines.headers lines.total
-    items.items items.given items.part said.numberAmong said.predictorOf said.encodingOf said.blank said.trimStart said.trimEnd said.unsigned said.signCode table same
+    items.items items.absent items.given items.part said.numberAmong said.predictorOf said.encodingOf said.blank said.trimStart said.trimEnd said.unsigned said.signCode table same
     checks.check checks._orElse_ checks.unknownIn checks.unknownFrom
     defined.mainItems defined.slowItems defined.mainAbsent defined.slowAbsent defined.noSlowLists defined.mainFinding defined.slowFinding defined.judged
-    defined.slowFields defined.fieldsOf defined.definitionOf defined.defined
+    defined.slowFields defined.fieldsOf defined.inInterval defined.definitionOf defined.defined
     mainLists.rounds mainLists.said mainLists.isField mainLists.inRounds mainLists.reached mainLists.wrong mainLists.lengths mainLists.inLengths
     mainLists.fieldsFrom mainLists.motorFrom mainLists.mainOf mainLists.inNeeds mainLists.judgedMain
     slowLists.slowRounds slowLists.slowSaid slowLists.equalCounts slowLists.slowOf slowLists.judgedFour slowLists.judgedSlow
@@ -82,7 +82,7 @@ listsOpen = tt
 unfoldable pub walkOpen : Unit {0}
 unfolding listsOpen framesOpen search.letterOf search.searched search.ahead search.skipOf search.seek history.empty history.pushed history.past
     events.oneNumber events.withSecond events.twoNumbers events.exactly events.spelled events.closing events.ofType events.eventRead
-    extent.trial extent.isKind extent.closed extent.judged extent.begun extent.lookBy extent.look
+    extent.trial extent.isKind extent.closed extent.judged extent.begun extent.look
     tally.placeAfter tally.endedBy tally.endingAfter tally.partOf tally.oneMore tally.countsAfter tally.trialsAfter tally.tallyAfter answers.paperOf answers.isOver
     section.start section.historyWith section.answerWith section.fieldsWith section.historyAfter section.answerAfter section.fieldsAfter section.settled section.over section.tick
     calls.until calls.says calls.called

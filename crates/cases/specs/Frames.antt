@@ -5,6 +5,7 @@ use mathlib.Core.List.{List, [], _∷_}
 use mathlib.Core.Option.{Option, none, some}
 use mathlib.Core.Path.{_≡_}
 use lib.ListN.{length, replicate}
+use Rattle.plan.specs.Plan as plan
 use Rattle.plan.specs.Plan.{Shape, Rules, noNumbers}
 use Rattle.reader.specs.Got.{got, cut, corrupt}
 use Rattle.reader.specs.Place.{padded}
@@ -22,7 +23,7 @@ abbrev pub shapeOf : Fields → Shape
 shapeOf f = record { intra = f .encodings; inter = f .encodings; slow = some (f .encodings) }
 
 abbrev pub rulesOf : Fields → Rules
-rulesOf f = record { intra = f .intra; inter = f .inter; slow = f .intra; motor = 0; numbers = noNumbers }
+rulesOf f = record { intra = f .intra; inter = f .inter; slow = f .intra; motor = 0; numbers = noNumbers; interval = plan.plain .interval }
 
 pub data Case : Type 0 where
   -- what the frames before were, the bytes behind the kind byte, and what all of them are: the iteration, the time and the fields

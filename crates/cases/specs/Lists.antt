@@ -9,8 +9,8 @@ use Rattle.header.specs.Header.{headerOf}
 use Rattle.items.specs.Text.{ascii}
 use Rattle.plan.specs.declared.HeaderNumber.the-variants.{Given}
 use Rattle.plan.specs.declared.Numbers.{Numbers}
-use Rattle.plan.specs.Plan.{Core, core, noNumbers}
-use Rattle.plan.specs.declared.FrameInterval.{FrameInterval}
+use Rattle.plan.specs.declared.Settings.{Settings}
+use Rattle.plan.specs.Plan.{Core, core, noNumbers, plain}
 use Rattle.definition.specs.Checks.{Finding, refusal}
 use Rattle.definition.specs.Defined.{Answer, defined}
 
@@ -20,28 +20,30 @@ main names ip pp ie pe signs =
     "H Field I name:" ++ names ++ "\nH Field I predictor:" ++ ip ++ "\nH Field P predictor:" ++ pp
     ++ "\nH Field I encoding:" ++ ie ++ "\nH Field P encoding:" ++ pe ++ "\nH Field I signed:" ++ signs ++ "\n"
 
-abbrev pub interval : (numerator denominator : ℕ) → FrameInterval
-interval n d = record { numerator = n; denominator = d }
-
--- a log, the header numbers and the interval, and what is found
+-- a log, the header numbers and the settings, and what is found
 pub record ListCase : Type 0 where
   pub log : String
   pub numbers : Numbers
-  pub every : FrameInterval
+  pub settings : Settings
   pub finding : Finding
 
 abbrev pub definedBy : ListCase → Answer
-definedBy c = defined (ascii (c .log)) (headerOf (ascii (c .log)) .lists) (c .numbers) (c .every)
+definedBy c = defined (ascii (c .log)) (headerOf (ascii (c .log)) .lists) (c .numbers) (c .settings)
 
--- without header numbers, every loop iteration logged
+-- without header numbers, and with plain settings
 abbrev judged : Finding → String → ListCase
-judged finding log = record { log = log; numbers = noNumbers; every = interval 1 1; finding = finding }
+judged finding log = record { log = log; numbers = noNumbers; settings = plain; finding = finding }
 
 abbrev passes : String → ListCase
 passes = judged none
 
 abbrev refused : (number place : ℕ) → String → ListCase
 refused number place = judged (some (refusal number place 0))
+
+-- with an interval
+abbrev chosen : Finding → (intra numerator denominator : ℕ) → String → ListCase
+chosen finding i n d log =
+    record { log = log; numbers = noNumbers; settings = record { interval = record { intra = i; numerator = n; denominator = d } }; finding = finding }
 
 -- refusal 3 has a list and a round
 abbrev unknown : (list round : ℕ) → String → ListCase
@@ -88,8 +90,8 @@ listCases =
     ∷ passes (withPredictors "0,0,0,5" "6,2,0,5")
     ∷ refused 8 3 (withPredictors "0,0,0,0" "6,2,0,4")
     -- the same with its number; another interval
-    ∷ (record { log = withPredictors "0,0,0,0" "6,2,0,4"; numbers = record { «min_throttle» = Given 1150; «vbat_reference» = noNumbers .«vbat_reference»; «min_motor» = noNumbers .«min_motor» }; every = interval 1 1; finding = none })
-    ∷ (record { log = listsA; numbers = noNumbers; every = interval 1 2; finding = some (refusal 9 0 0) })
+    ∷ (record { log = withPredictors "0,0,0,0" "6,2,0,4"; numbers = record { «min_throttle» = Given 1150; «vbat_reference» = noNumbers .«vbat_reference»; «min_motor» = noNumbers .«min_motor» }; settings = plain; finding = none })
+    ∷ chosen (some (refusal 9 0 0)) 1 1 2 listsA
     -- 64 rounds pass, 65 give 2
     ∷ passes (withFields 62)
     ∷ refused 2 65 (withFields 63)
@@ -102,6 +104,12 @@ listCases =
     ∷ refused 1 0 ""
     ∷ refused 4 0 (listsA ++ "H Field I name:\n")
     ∷ passes (listsA ++ "H Field P name:a,b\n")
+    -- an intra interval of 32, and of 0; 2/2, and 0/0; 9 comes behind 8
+    ∷ chosen none 32 1 1 listsA
+    ∷ chosen (some (refusal 9 0 0)) 0 1 1 listsA
+    ∷ chosen (some (refusal 9 0 0)) 1 2 2 listsA
+    ∷ chosen (some (refusal 9 0 0)) 1 0 0 listsA
+    ∷ chosen (some (refusal 8 3 0)) 1 1 2 (withPredictors "0,0,0,0" "6,2,0,4")
     ∷ []
 
 abbrev pub Judged : ListCase → Type 0
@@ -114,7 +122,7 @@ coreA =
       items = 3;
       slowItems = 0;
       shape = record { intra = 0 ∷ []; inter = 0 ∷ []; slow = none };
-      rules = record { intra = 8 ∷ []; inter = 1 ∷ []; slow = []; motor = 0; numbers = noNumbers };
+      rules = record { intra = 8 ∷ []; inter = 1 ∷ []; slow = []; motor = 0; numbers = noNumbers; interval = plain .interval };
       unsigned = true ∷ [];
       slowUnsigned = [];
     }

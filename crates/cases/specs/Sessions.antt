@@ -7,7 +7,7 @@ use lib.ListN.{length, drop}
 use Rattle.header.specs.Header.{headerOf}
 use Rattle.items.specs.Text.{ascii}
 use Rattle.plan.specs.declared.Definition.{Definition}
-use Rattle.plan.specs.Plan.{noNumbers}
+use Rattle.plan.specs.Plan.{noNumbers, plain}
 use Rattle.definition.specs.Defined.{defined}
 use Rattle.section.specs.declared.Ending.{Ending}
 use Rattle.section.specs.declared.Tally.{Tally}
@@ -15,7 +15,6 @@ use Rattle.section.specs.declared.Walk.{Walk}
 use Rattle.section.specs.Answers.{Paper, isOver, paperOf}
 use Rattle.section.specs.Walk.{Outcome, start}
 use Rattle.calls.specs.Call.{called}
-use Rattle.cases.specs.Lists.{interval}
 
 -- a line for each call, and the tally behind the last
 pub record Session : Type 0 where
@@ -49,7 +48,7 @@ callsOver d s = callsFrom d s (length s) start
 
 -- a log's lists, without header numbers, every loop iteration logged
 abbrev pub definitionIn : (log : List ℕ) → Definition
-definitionIn log = defined log (headerOf log .lists) noNumbers (interval 1 1) .definition
+definitionIn log = defined log (headerOf log .lists) noNumbers plain .definition
 
 -- its section stands behind its header lines
 abbrev sectionIn : (log : List ℕ) → List ℕ

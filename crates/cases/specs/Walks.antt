@@ -5,7 +5,7 @@ use mathlib.Core.List.{List, [], _∷_, _++_}
 use mathlib.Core.Path.{_≡_}
 use Rattle.items.specs.Text.{ascii}
 use Rattle.plan.specs.declared.Definition.{Definition}
-use Rattle.plan.specs.Plan.{noNumbers}
+use Rattle.plan.specs.Plan.{noNumbers, plain}
 use Rattle.reader.specs.declared.Kind.the-variants as kind
 use Rattle.reader.specs.Place.{padded}
 use Rattle.frame.specs.declared.MainFrame.{MainFrame}
@@ -59,11 +59,22 @@ madeOf n m p q e =
           };
       slow = record { n = m; predictors = padded 16 (p ∷ []); encodings = padded 16 (e ∷ []); signs = padded 16 [] };
       numbers = noNumbers;
+      settings = plain;
     }
 
 -- one predictor for all of them
 abbrev made : (items slowItems predictor encoding : ℕ) → Definition
 made n m p e = madeOf n m p p e
+
+-- that of document 01's lists with another interval
+abbrev every : (intra numerator denominator : ℕ) → Definition
+every i n d =
+    record {
+      main = byListsA .main;
+      slow = byListsA .slow;
+      numbers = noNumbers;
+      settings = record { interval = record { intra = i; numerator = n; denominator = d } };
+    }
 
 -- ## Walks
 
@@ -183,6 +194,9 @@ calls =
     ∷ refused (made 2 1 12 0) start frame room 10 0
     ∷ refused (made 2 1 0 2) start frame room 10 0
     ∷ refused (made 2 1 5 0) start frame room 10 0
+    -- intervals that 9 refuses
+    ∷ refused (every 1 1 2) start frame room 10 0
+    ∷ refused (every 0 1 1) start frame room 10 0
     -- 11: one field and no place for it; two slow fields and one place
     ∷ refused byListsA start frame [] 11 1
     ∷ refused (made 3 2 0 0) start frame (7 ∷ []) 11 2

@@ -4,7 +4,7 @@ use mathlib.Core.Bool.{Bool, cond, not}
 use mathlib.Core.Option.{none, some}
 use mathlib.Core.Path.{_≡_, sym, ap, ap₂, _∙_}
 use Rattle.definition.specs.declared.Refusal.{Refusal}
-use Rattle.definition.specs.declared.Refusal.the-variants.{Absent, WrongLength}
+use Rattle.definition.specs.declared.Refusal.the-variants.{Absent, WrongLength, Interval}
 use Rattle.definition.specs.declared.Verdict.{Verdict}
 use Rattle.definition.specs.declared.Verdict.the-variants.{Pass, Refused}
 use Rattle.definition.specs.Checks.{paperOf, Finding, found, check, _orElse_}
@@ -35,7 +35,7 @@ chain e ea eb = e ∙ ap₂ (λ x y. x orElse y) ea eb
 unless : {f : Finding} {g h : Bool} (r : Refusal) → f ≡ cond (not g) (some (paperOf r)) none → g ≡ h → f ≡ cond (not h) (some (paperOf r)) none
 unless r e is = e ∙ ap (λ t. cond (not t) (some (paperOf r)) none) is
 
--- check 1 of one list, and check 6 of four
+-- check 1 of one list, check 6 of four, and check 9
 pub absent : {f : Finding} {g h : Bool} (list : ℕ) → f ≡ cond (not g) (some (paperOf (Absent list))) none → g ≡ h → f ≡ check (not h) 1 list
 unfolding check paperOf
 absent list = unless (Absent list)
@@ -43,3 +43,7 @@ absent list = unless (Absent list)
 pub uneven : {f : Finding} {g h : Bool} (n : ℕ) → f ≡ cond (not g) (some (paperOf (WrongLength n))) none → g ≡ h → f ≡ check (not h) 6 n
 unfolding check paperOf
 uneven n = unless (WrongLength n)
+
+pub other : {f : Finding} {g h : Bool} → f ≡ cond (not g) (some (paperOf Interval)) none → g ≡ h → f ≡ check (not h) 9 0
+unfolding check paperOf
+other = unless Interval

@@ -14,9 +14,9 @@ use Rattle.items.specs.Items.{at}
 use Rattle.items.specs.Said.{predictorOf, encodingOf, unknown}
 use Rattle.plan.specs.declared.Definition.{Definition}
 use Rattle.plan.specs.declared.Numbers.{Numbers}
+use Rattle.plan.specs.declared.Settings.{Settings}
 use Rattle.plan.specs.Plan.{noSlow, nothing}
 use Rattle.plan.specs.Sound.{unmetMain, unmetSlow}
-use Rattle.plan.specs.declared.FrameInterval.{FrameInterval}
 use Rattle.definition.specs.declared.Refusal.{Refusal}
 use Rattle.definition.specs.declared.Refusal.the-variants.{TooMany}
 use Rattle.definition.specs.declared.Verdict.the-variants.{Pass, Refused}
@@ -100,31 +100,31 @@ module _ (l : SlowItems) (numbers : Numbers) {n : ℕ} (is : n ≡ rounds (both 
       ∙ rw (sym slow-rounds, le-ltb 16 n le)
 
 module _ (text : List ℕ) (l : SlowLists) (numbers : Numbers) where
-  pub no-slow : noSlowLists text l ≡ true → found Pass ≡ slowFinding text l numbers
+  pub no-slow : noSlowLists l ≡ true → found Pass ≡ slowFinding text l numbers
   unfolding found slowFinding
   no-slow e = rw e
 
-  pub no-slow-fields : noSlowLists text l ≡ true → noSlow ≡ slowFields text l
+  pub no-slow-fields : noSlowLists l ≡ true → noSlow ≡ slowFields text l
   unfolding slowFields
   no-slow-fields e = rw e
 
-  pub some-slow : {f : Finding} → noSlowLists text l ≡ false → f ≡ (slowAbsent text l orElse judgedSlow (slowItems text l) numbers) → f ≡ slowFinding text l numbers
+  pub some-slow : {f : Finding} → noSlowLists l ≡ false → f ≡ (slowAbsent text l orElse judgedSlow (slowItems text l) numbers) → f ≡ slowFinding text l numbers
   unfolding slowFinding
   some-slow e is = is ∙ rw e
 
-  pub some-slow-fields : noSlowLists text l ≡ false → slowOf (slowItems text l) (slowRounds (slowItems text l)) ≡ slowFields text l
+  pub some-slow-fields : noSlowLists l ≡ false → slowOf (slowItems text l) (slowRounds (slowItems text l)) ≡ slowFields text l
   unfolding slowFields
   some-slow-fields e = rw e
 
 -- ## The definition
 
-module _ (text : List ℕ) (l : Lists) (numbers : Numbers) (interval : FrameInterval) where
-  pub defined-pass : {d : Definition} → none ≡ judged text l numbers interval → d ≡ fieldsOf text l numbers
-      → _≡_ {A = Answer} (record { finding = found Pass; definition = d }) (defined text l numbers interval)
+module _ (text : List ℕ) (l : Lists) (numbers : Numbers) (settings : Settings) where
+  pub defined-pass : {d : Definition} → none ≡ judged text l numbers settings → d ≡ fieldsOf text l numbers settings
+      → _≡_ {A = Answer} (record { finding = found Pass; definition = d }) (defined text l numbers settings)
   unfolding found defined definitionOf
-  defined-pass e is i = record { finding = e i; definition = (is ∙ ap (λ f. definitionOf f (fieldsOf text l numbers)) e) i }
+  defined-pass e is i = record { finding = e i; definition = (is ∙ ap (λ f. definitionOf f (fieldsOf text l numbers settings)) e) i }
 
-  pub defined-refused : (r : Refusal) {d : Definition} → found (Refused r) ≡ judged text l numbers interval → d ≡ nothing
-      → _≡_ {A = Answer} (record { finding = found (Refused r); definition = d }) (defined text l numbers interval)
+  pub defined-refused : (r : Refusal) {d : Definition} → found (Refused r) ≡ judged text l numbers settings → d ≡ nothing
+      → _≡_ {A = Answer} (record { finding = found (Refused r); definition = d }) (defined text l numbers settings)
   unfolding found defined definitionOf
-  defined-refused r e is i = record { finding = e i; definition = (is ∙ ap (λ f. definitionOf f (fieldsOf text l numbers)) e) i }
+  defined-refused r e is i = record { finding = e i; definition = (is ∙ ap (λ f. definitionOf f (fieldsOf text l numbers settings)) e) i }

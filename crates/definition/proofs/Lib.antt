@@ -1,9 +1,11 @@
 pub mod Chain
+pub mod Fitting
 pub mod Judged
 pub mod Laid
 pub mod Lengths
 pub mod Motor
 pub mod One
+pub mod Outside
 pub mod Papers
 pub mod Readings
 pub mod Rounds

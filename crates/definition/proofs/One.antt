@@ -5,8 +5,8 @@ use mathlib.Core.Path.{_≡_, ap}
 use Rattle.items.specs.declared.Lists.{Lists}
 use Rattle.items.proofs.One.{one-answer}
 use Rattle.plan.specs.declared.Numbers.{Numbers}
+use Rattle.plan.specs.declared.Settings.{Settings}
 use Rattle.definition.specs.declared.Defined.{Defined}
-use Rattle.plan.specs.declared.FrameInterval.{FrameInterval}
 use Rattle.definition.specs.declared.Paper.{Paper}
 use Rattle.definition.specs.declared.Refusal.{Refusal}
 use Rattle.definition.specs.Defined.{Answer, told}
@@ -24,6 +24,6 @@ told-injective r t e i =
       definition = e i .definition;
     }
 
-pub define-one : (text : List ℕ) (lists : Lists) (numbers : Numbers) (interval : FrameInterval) {r t : Defined}
-    → DefineOwes text lists numbers interval r → DefineOwes text lists numbers interval t → r ≡ t
-define-one text lists numbers interval {r} {t} p q = told-injective r t (one-answer p q)
+pub define-one : (text : List ℕ) (lists : Lists) (numbers : Numbers) (settings : Settings) {r t : Defined}
+    → DefineOwes text lists numbers settings r → DefineOwes text lists numbers settings t → r ≡ t
+define-one text lists numbers settings {r} {t} p q = told-injective r t (one-answer p q)

@@ -1,6 +1,6 @@
--- Whatever the lists are, the definition that comes out is sound: a refused one has no fields, an accepted one has passed checks 2, 3 and 8.
+-- Whatever the lists are, the definition that comes out is sound: a refused one has no fields, an accepted one has passed checks 2, 3, 8 and 9.
 use Prim.Native.Nat.{ℕ, zero, suc, _+_, _-_, _<_, _≤_}
-use mathlib.Core.Bool.{Bool, true, false, cond, true≢false}
+use mathlib.Core.Bool.{Bool, true, false, cond, not, true≢false}
 use mathlib.Core.List.{List, [], _∷_}
 use mathlib.Core.Option.{Option, none, some}
 use mathlib.Core.Path.{_≡_, refl, sym, ap, _∙_}
@@ -8,7 +8,7 @@ use native.Mathlib.Nat.{zero-add}
 use native.Mathlib.Omega.{arith}
 use lib.ListN.{getD, take, length-take}
 use lib.Seq.{getD-take}
-use borrow.Author.Tests.{lt-ltb, ltb-false}
+use borrow.Author.Tests.{lt-ltb, ltb-false, not-false}
 use Rattle.items.specs.declared.Lists.{Lists}
 use Rattle.items.specs.declared.SlowLists.{SlowLists}
 use Rattle.items.specs.Items.{at}
@@ -18,15 +18,15 @@ use Rattle.items.proofs.Tables.{getD-table}
 use Rattle.plan.specs.declared.Need.{Need}
 use Rattle.plan.specs.declared.Need.the-variants.{Met, Unmet}
 use Rattle.plan.specs.declared.Numbers.{Numbers}
+use Rattle.plan.specs.declared.Settings.{Settings}
 use Rattle.plan.specs.Known.{among, predictors, encodings}
 use Rattle.plan.specs.Plan.{noSlow, nothing}
-use Rattle.plan.specs.Sound.{known, unmetFrom, unmetSlow, soundMain, soundSlow, sound}
+use Rattle.plan.specs.Sound.{known, unmetFrom, unmetSlow, soundMain, soundSlow, isInterval, sound}
 use Rattle.plan.proofs.Needs.{known-all}
 use Rattle.plan.proofs.Sound.{main-sound-made, slow-sound-made, sound-made, nothing-sound}
-use Rattle.plan.specs.declared.FrameInterval.{FrameInterval}
 use Rattle.definition.specs.declared.Paper.{Paper}
 use Rattle.definition.specs.Checks.{Finding, check, _orElse_, unknownIn, unknownFrom}
-use Rattle.definition.specs.Defined.{mainItems, slowItems, slowAbsent, noSlowLists, mainFinding, slowFinding, judged, slowFields, fieldsOf, definitionOf, defined}
+use Rattle.definition.specs.Defined.{mainItems, slowItems, slowAbsent, noSlowLists, mainFinding, slowFinding, judged, slowFields, fieldsOf, inInterval, definitionOf, defined}
 use Rattle.definition.specs.MainLists.{Items, MainItems, rounds, said, inRounds, fieldsFrom, predictor, encoding, mainOf, inNeeds, judgedMain}
 use Rattle.definition.specs.SlowLists.{SlowItems, slowRounds, slowSaid, slowOf, judgedFour, judgedSlow}
 use Rattle.definition.proofs.Judged.{else-none}
@@ -163,7 +163,7 @@ no-slow-sound numbers = refl
 slow-passed : (text : List ℕ) (l : SlowLists) (numbers : Numbers) → slowFinding text l numbers ≡ none
     → (slowFields text l .n ≤ 16) × (soundSlow (slowFields text l) numbers ≡ true)
 unfolding slowFinding slowFields slowOf
-slow-passed text l numbers e = by (noSlowLists text l) e
+slow-passed text l numbers e = by (noSlowLists l) e
   where
     items : SlowItems
     items = slowItems text l
@@ -175,40 +175,45 @@ slow-passed text l numbers e = by (noSlowLists text l) e
 
 -- ## The definition
 
-module _ (text : List ℕ) (l : Lists) (numbers : Numbers) (interval : FrameInterval) where
-  by-finding : {f : Finding} → defined text l numbers interval .finding ≡ f → defined text l numbers interval .definition ≡ definitionOf f (fieldsOf text l numbers)
+module _ (text : List ℕ) (l : Lists) (numbers : Numbers) (settings : Settings) where
+  by-finding : {f : Finding} → defined text l numbers settings .finding ≡ f → defined text l numbers settings .definition ≡ definitionOf f (fieldsOf text l numbers settings)
   unfolding defined
-  by-finding e = ap (λ f. definitionOf f (fieldsOf text l numbers)) e
+  by-finding e = ap (λ f. definitionOf f (fieldsOf text l numbers settings)) e
 
-  pub defined-refused-has-no-fields : {p : Paper} → defined text l numbers interval .finding ≡ some p → defined text l numbers interval .definition ≡ nothing
+  pub defined-refused-has-no-fields : {p : Paper} → defined text l numbers settings .finding ≡ some p → defined text l numbers settings .definition ≡ nothing
   unfolding definitionOf
   defined-refused-has-no-fields = by-finding
 
-  module _ (accepted : defined text l numbers interval .finding ≡ none) where
-    pub defined-accepted-has-its-fields : defined text l numbers interval .definition ≡ fieldsOf text l numbers
+  module _ (accepted : defined text l numbers settings .finding ≡ none) where
+    pub defined-accepted-has-its-fields : defined text l numbers settings .definition ≡ fieldsOf text l numbers settings
     unfolding definitionOf
     defined-accepted-has-its-fields = by-finding accepted
 
     passed : (judgedMain (mainItems text (l .main)) numbers ≡ none) × (slowFinding text (l .slow) numbers ≡ none)
-    unfolding defined judged mainFinding
-    passed = let main = else-none _ _ accepted in (else-none _ _ (main .0) .1, else-none _ _ (main .1) .0)
+        × (not (isInterval (settings .interval)) ≡ false)
+    unfolding defined judged mainFinding inInterval fieldsOf
+    passed =
+        let main = else-none _ _ accepted in
+        let behind = else-none _ _ (main .1) in
+        (else-none _ _ (main .0) .1, behind .0, check-none _ _ _ (behind .1))
 
     -- 2 to 64 main items, and at most 16 slow ones
-    pub defined-counts : let d = defined text l numbers interval .definition in (2 ≤ d .main .n) × (d .main .n ≤ 64) × (d .slow .n ≤ 16)
+    pub defined-counts : let d = defined text l numbers settings .definition in (2 ≤ d .main .n) × (d .main .n ≤ 64) × (d .slow .n ≤ 16)
     unfolding fieldsOf mainOf
     defined-counts =
         let main = main-count _ numbers (passed .0) in
         rw defined-accepted-has-its-fields (main .0, main .1, slow-passed text (l .slow) numbers (passed .1) .0)
 
-    accepted-sound : sound (defined text l numbers interval .definition) ≡ true
+    accepted-sound : sound (defined text l numbers settings .definition) ≡ true
     unfolding fieldsOf
     accepted-sound =
         ap sound defined-accepted-has-its-fields
-        ∙ sound-made (fieldsOf text l numbers) (main-sound _ numbers (passed .0)) (slow-passed text (l .slow) numbers (passed .1) .1)
+        ∙ sound-made (fieldsOf text l numbers settings) (main-sound _ numbers (passed .0)) (slow-passed text (l .slow) numbers (passed .1) .1)
+        (not-false _ (passed .2))
 
-  pub defined-sound : sound (defined text l numbers interval .definition) ≡ true
-  defined-sound = by (defined text l numbers interval .finding) refl
+  pub defined-sound : sound (defined text l numbers settings .definition) ≡ true
+  defined-sound = by (defined text l numbers settings .finding) refl
     where
-      by : (f : Finding) → defined text l numbers interval .finding ≡ f → sound (defined text l numbers interval .definition) ≡ true
+      by : (f : Finding) → defined text l numbers settings .finding ≡ f → sound (defined text l numbers settings .definition) ≡ true
       by none e = accepted-sound e
       by (some p) e = ap sound (defined-refused-has-no-fields e) ∙ nothing-sound

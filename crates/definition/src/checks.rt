@@ -4,6 +4,7 @@ ghost use mathlib.Core.Path.{_≡_};
 ghost use mathlib.Core.Option.{some, none};
 ghost use Prim.Native.Nat.{_-_, _<_, _≤_};
 ghost use Rattle.definition.specs.Checks.{refusal, paperOf, found, _orElse_, unknownIn, unknownFrom};
+ghost use Rattle.definition.specs.Defined.{inInterval};
 ghost use Rattle.definition.specs.MainLists.{said, inNeeds};
 ghost use Rattle.definition.specs.Rows.{ForMain};
 use crate::Paper;
@@ -12,6 +13,7 @@ use crate::Rows;
 use crate::Verdict;
 use crate::reading::code_at;
 use items::UNKNOWN;
+use plan::Definition;
 use plan::Need;
 
 pub(crate) fn paper(number: u8, place: usize, round: usize) -> Paper
@@ -89,4 +91,12 @@ pub(crate) fn unmet(need: Need) -> Verdict
         Need::Met => Verdict::Pass,
         Need::Unmet(field) => Verdict::Refused(Refusal::Unmet(field)),
     }
+}
+
+// Check 9, over a finished definition: another frame interval than 1/1.
+pub(crate) fn other_interval(d: Definition) -> Verdict
+    ensures { λ r. ⌜ found r ≡ inInterval d ⌝ }
+{
+    let settings = d.settings;
+    check(!settings.interval.is_interval(), Refusal::Interval)
 }

@@ -1,11 +1,7 @@
-// A log's lists to a definition, or the refusal: the six main lists, the four slow ones, the header numbers and the interval.
+// A log's lists to a definition, or the refusal: the six main lists, the four slow ones, the header numbers and the settings.
 // The Rust judges while it zips lazy items; here the lists are read into rows once, and the checks are a chain over rows.
-ghost use mathlib.Core.Bool.{not, _&&_};
 ghost use mathlib.Core.Path.{_≡_};
-ghost use lib.Dec.{eqb};
-ghost use Rattle.plan.specs.Plan.{noNumbers};
-ghost use Rattle.definition.specs.Checks.{found, check};
-ghost use Rattle.definition.specs.Defined.{everyLoop};
+ghost use Rattle.plan.specs.Plan.{noNumbers, plain};
 ghost use Rattle.definition.specs.Owes.{PaperOwes, DefineOwes};
 
 mod checks;
@@ -16,10 +12,10 @@ mod slow_lists;
 use items::Lists;
 use items::Row;
 use plan::Definition;
-use plan::FrameInterval;
 use plan::HeaderNumber;
 use plan::Main;
 use plan::Numbers;
+use plan::Settings;
 use plan::Slow;
 
 // Why lists are refused, 1 to 9, with what the refusal's place says: a list, a number of rounds, a round, a field.
@@ -94,21 +90,9 @@ impl Refusal {
     }
 }
 
-// Only an interval of 1/1 is taken: every loop iteration is logged.
-fn check_interval(interval: FrameInterval) -> Verdict
-    ensures { λ r. ⌜ found r ≡ check (not (eqb (interval .numerator) 1 && eqb (interval .denominator) 1)) 9 0 ⌝ }
-{
-    if interval.numerator == 1 {
-        if interval.denominator == 1 {
-            return Verdict::Pass;
-        }
-    }
-    Verdict::Refused(Refusal::Interval)
-}
-
 // The definition that the lists of a text give, or the refusal: main lists first, slow ones next, then the interval.
-pub fn define(text: &[u8], lists: Lists, numbers: Numbers, interval: FrameInterval) -> Defined
-    ensures { λ r. ⌜ DefineOwes (now (text .entry)) lists numbers interval r ⌝ }
+pub fn define(text: &[u8], lists: Lists, numbers: Numbers, settings: Settings) -> Defined
+    ensures { λ r. ⌜ DefineOwes (now (text .entry)) lists numbers settings r ⌝ }
 {
     let main_lists = lists.main;
     let slow_lists = lists.slow;
@@ -116,18 +100,20 @@ pub fn define(text: &[u8], lists: Lists, numbers: Numbers, interval: FrameInterv
     let slow = slow_lists::judge(text, slow_lists, numbers);
     let main_verdict = main.verdict;
     let slow_verdict = slow.verdict;
-    let last = check_interval(interval);
-    let verdict = checks::first(main_verdict, checks::first(slow_verdict, last));
     let main_fields = main.fields;
     let slow_fields = slow.fields;
+    let finished = Definition {
+        main: main_fields,
+        slow: slow_fields,
+        numbers,
+        settings,
+    };
+    let last = checks::other_interval(finished);
+    let verdict = checks::first(main_verdict, checks::first(slow_verdict, last));
     match verdict {
         Verdict::Pass => Defined {
             verdict: Verdict::Pass,
-            definition: Definition {
-                main: main_fields,
-                slow: slow_fields,
-                numbers,
-            },
+            definition: finished,
         },
         Verdict::Refused(refusal) => {
             let nothing = Definition::nothing();
@@ -139,18 +125,14 @@ pub fn define(text: &[u8], lists: Lists, numbers: Numbers, interval: FrameInterv
     }
 }
 
-// The lists alone, with no header numbers and an interval of 1/1: what document 01's program takes of a log.
+// The lists alone, with no header numbers and plain settings: what document 01's program takes of a log.
 pub fn define_plainly(text: &[u8], lists: Lists) -> Defined
-    ensures { λ r. ⌜ DefineOwes (now (text .entry)) lists noNumbers everyLoop r ⌝ }
+    ensures { λ r. ⌜ DefineOwes (now (text .entry)) lists noNumbers plain r ⌝ }
 {
     let numbers = Numbers {
         min_throttle: HeaderNumber::Absent,
         vbat_reference: HeaderNumber::Absent,
         min_motor: HeaderNumber::Absent,
     };
-    let interval = FrameInterval {
-        numerator: 1,
-        denominator: 1,
-    };
-    define(text, lists, numbers, interval)
+    define(text, lists, numbers, Settings::plain())
 }

@@ -74,23 +74,23 @@ fn judge_rows(rows: Rows, numbers: Numbers) -> SlowJudged
     }
 }
 
-fn has_none(text: &[u8], lists: SlowLists) -> bool
-    ensures { λ r. ⌜ r ≡ noSlowLists (now (text .entry)) lists ⌝ }
+fn has_none(lists: SlowLists) -> bool
+    ensures { λ r. ⌜ r ≡ noSlowLists lists ⌝ }
 {
     let l0 = lists.names;
     let l1 = lists.predictors;
     let l3 = lists.encodings;
     let l5 = lists.signs;
-    if items::is_given(text, l0) {
+    if !items::is_absent(l0) {
         return false;
     }
-    if items::is_given(text, l1) {
+    if !items::is_absent(l1) {
         return false;
     }
-    if items::is_given(text, l3) {
+    if !items::is_absent(l3) {
         return false;
     }
-    !items::is_given(text, l5)
+    items::is_absent(l5)
 }
 
 fn check_absent(text: &[u8], lists: SlowLists) -> Verdict
@@ -129,7 +129,7 @@ fn twice(lists: SlowLists) -> MainLists
 pub(crate) fn judge(text: &[u8], lists: SlowLists, numbers: Numbers) -> SlowJudged
     ensures { λ r. ⌜ (found (r .verdict) ≡ slowFinding (now (text .entry)) lists numbers) × (found (r .verdict) ≡ none → r .fields ≡ slowFields (now (text .entry)) lists) ⌝ }
 {
-    if has_none(text, lists) {
+    if has_none(lists) {
         let nothing = Definition::nothing();
         let fields = nothing.slow;
         return SlowJudged {

@@ -6,7 +6,7 @@ use mathlib.Core.Path.{_≡_, sym, _∙_}
 use Rattle.items.specs.declared.Of.{Of}
 use Rattle.items.specs.declared.Row.{Row}
 use Rattle.items.specs.declared.Stretch.{Stretch}
-use Rattle.items.specs.Owes.{ReadRowOwes, ItemAtOwes, IsGivenOwes, PartOwes}
+use Rattle.items.specs.Owes.{ReadRowOwes, ItemAtOwes, IsAbsentOwes, IsGivenOwes, PartOwes}
 
 -- a promise is one equation to a definition
 pub one-answer : {A : Type 0} {x r t : A} → r ≡ x → t ≡ x → r ≡ t
@@ -17,6 +17,9 @@ read-row-one text of = one-answer
 
 pub item-at-one : (text : List ℕ) (k : ℕ) {r t : Stretch} → ItemAtOwes text k r → ItemAtOwes text k t → r ≡ t
 item-at-one text k = one-answer
+
+pub is-absent-one : (s : Stretch) {r t : Bool} → IsAbsentOwes s r → IsAbsentOwes s t → r ≡ t
+is-absent-one s = one-answer
 
 pub is-given-one : (text : List ℕ) (s : Stretch) {r t : Bool} → IsGivenOwes text s r → IsGivenOwes text s t → r ≡ t
 is-given-one text s = one-answer

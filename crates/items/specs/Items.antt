@@ -1,6 +1,6 @@
 -- The items of a comma-separated text (document 01, "Definition lists"), and where each stands.
 use Prim.Native.Nat.{ℕ, zero, suc, _+_, _-_}
-use mathlib.Core.Bool.{Bool, false, cond, _&&_}
+use mathlib.Core.Bool.{Bool, true, false, cond, _&&_}
 use mathlib.Core.List.{List, [], _∷_}
 use lib.Dec.{eqb, ltb, leb}
 use lib.ListN.{length, getD, take, drop}
@@ -33,6 +33,11 @@ itemAt text k =
     cond (ltb k (length (items text)))
     (At (startOf (items text) k) (startOf (items text) k + length (at (items text) k)))
     Absent
+
+-- a stretch is absent if it says so, whatever the text
+unfoldable pub absent : Stretch → Bool
+absent (At start end) = false
+absent Absent = true
 
 -- a stretch is given if it says so and lies in the text
 unfoldable pub given : List ℕ → Stretch → Bool

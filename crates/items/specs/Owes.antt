@@ -6,7 +6,7 @@ use mathlib.Core.Path.{_≡_}
 use Rattle.items.specs.declared.Of.{Of}
 use Rattle.items.specs.declared.Row.{Row}
 use Rattle.items.specs.declared.Stretch.{Stretch}
-use Rattle.items.specs.Items.{items, itemAt, given, part}
+use Rattle.items.specs.Items.{items, itemAt, absent, given, part}
 use Rattle.items.specs.Rows.{rowOf}
 
 abbrev pub ReadRowOwes : List ℕ → Of → Row → Type 0
@@ -14,6 +14,9 @@ ReadRowOwes text of r = r ≡ rowOf of (items text)
 
 abbrev pub ItemAtOwes : List ℕ → ℕ → Stretch → Type 0
 ItemAtOwes text k r = r ≡ itemAt text k
+
+abbrev pub IsAbsentOwes : Stretch → Bool → Type 0
+IsAbsentOwes s r = r ≡ absent s
 
 abbrev pub IsGivenOwes : List ℕ → Stretch → Bool → Type 0
 IsGivenOwes text s r = r ≡ given text s

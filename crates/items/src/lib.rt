@@ -3,7 +3,7 @@
 ghost use mathlib.Core.Path.{_≡_};
 ghost use Prim.Native.Nat.{_+_, _≤_};
 ghost use lib.ListN.{length, drop, set};
-ghost use Rattle.items.specs.Owes.{ReadRowOwes, ItemAtOwes, IsGivenOwes, PartOwes};
+ghost use Rattle.items.specs.Owes.{ReadRowOwes, ItemAtOwes, IsAbsentOwes, IsGivenOwes, PartOwes};
 ghost use Rattle.items.specs.Width.{width};
 
 mod said;
@@ -128,6 +128,16 @@ pub fn item_at(text: &[u8], k: usize) -> Stretch
         j += 1;
     }
     Stretch::At(from, item_end(text, from))
+}
+
+// Whether there is no stretch: one that does not lie in its text is none that is absent.
+pub fn is_absent(s: Stretch) -> bool
+    ensures { λ r. ⌜ IsAbsentOwes s r ⌝ }
+{
+    match s {
+        Stretch::At(_, _) => false,
+        Stretch::Absent => true,
+    }
 }
 
 // Whether a stretch is there and lies in the text.

@@ -3,13 +3,25 @@ use Prim.Native.Nat.{ℕ, _-_, min}
 use mathlib.Core.Bool.{Bool, cond}
 use mathlib.Core.List.{List, map}
 use mathlib.Core.Option.{Option, none, some}
-use lib.Dec.{eqb}
+use lib.Dec.{eqb, ltb}
 use lib.ListN.{take, replicate}
 use Rattle.plan.specs.declared.Definition.{Definition}
-use Rattle.plan.specs.declared.HeaderNumber.the-variants.{Absent}
+use Rattle.plan.specs.declared.FrameInterval.{FrameInterval}
+use Rattle.plan.specs.declared.HeaderNumber.{HeaderNumber}
+use Rattle.plan.specs.declared.HeaderNumber.the-variants.{Absent, Given}
 use Rattle.plan.specs.declared.Main.{Main}
 use Rattle.plan.specs.declared.Numbers.{Numbers}
+use Rattle.plan.specs.declared.Settings.{Settings}
 use Rattle.plan.specs.declared.Slow.{Slow}
+
+-- a header number of 16 bits as a number; 65536 where there is none
+unfoldable pub numberCode : HeaderNumber → ℕ
+numberCode Absent = 65536
+numberCode (Given v) = v
+
+-- whatever needs more than 16 bits is none
+unfoldable pub numberOf : ℕ → HeaderNumber
+numberOf c = cond (ltb c 65536) (Given c) Absent
 
 -- the fields of a main frame are the items behind `loopIteration` and `time`
 abbrev pub fields : Main → ℕ
@@ -29,13 +41,15 @@ shape d =
       slow = cond (eqb (d .slow .n) 0) none (some (take (d .slow .n) (d .slow .encodings)));
     }
 
--- what values are: the predictors of the fields, the place of `motor[0]` among them or their number where it is none of them, the header numbers
+-- what values are: the predictors of the fields, the place of `motor[0]` among them or their number where it is none of them, the header numbers,
+-- how often iterations are logged
 pub record Rules : Type 0 where
   pub intra : List ℕ
   pub inter : List ℕ
   pub slow : List ℕ
   pub motor : ℕ
   pub numbers : Numbers
+  pub interval : FrameInterval
 
 unfoldable pub rules : Definition → Rules
 rules d =
@@ -45,6 +59,7 @@ rules d =
       slow = take (d .slow .n) (d .slow .predictors);
       motor = min (d .main .motor) (fields (d .main));
       numbers = d .numbers;
+      interval = d .settings .interval;
     }
 
 -- all that a definition says: the item counts, the shape, the rules, and which values are shown unsigned
@@ -67,7 +82,7 @@ core d =
       slowUnsigned = map (eqb 0) (take (d .slow .n) (d .slow .signs));
     }
 
--- no fields, and no header numbers
+-- no fields, no header numbers, and nothing chosen
 abbrev pub noMain : Main
 noMain =
     record {
@@ -86,5 +101,9 @@ noSlow = record { n = 0; predictors = replicate 16 0; encodings = replicate 16 0
 abbrev pub noNumbers : Numbers
 noNumbers = record { «min_throttle» = Absent; «vbat_reference» = Absent; «min_motor» = Absent }
 
+-- every loop iteration is logged: the intra interval 1, and 1/1
+abbrev pub plain : Settings
+plain = record { interval = record { intra = 1; numerator = 1; denominator = 1 } }
+
 unfoldable pub nothing : Definition
-nothing = record { main = noMain; slow = noSlow; numbers = noNumbers }
+nothing = record { main = noMain; slow = noSlow; numbers = noNumbers; settings = plain }

@@ -1,10 +1,11 @@
--- What a definition's fields must be (document 01, checks 3 and 8): known predictors and encodings, and what predictors need.
+-- What a definition's fields must be (document 01, checks 3, 8 and 9): known predictors and encodings, what predictors need, and an interval of 1/1.
 use Prim.Native.Nat.{ℕ, suc, _+_}
 use mathlib.Core.Bool.{Bool, true, false, cond, _&&_}
 use mathlib.Core.List.{List, [], _∷_}
 use lib.Dec.{eqb, ltb, leb}
 use lib.ListN.{take}
 use Rattle.plan.specs.declared.Definition.{Definition}
+use Rattle.plan.specs.declared.FrameInterval.{FrameInterval}
 use Rattle.plan.specs.declared.HeaderNumber.{HeaderNumber}
 use Rattle.plan.specs.declared.HeaderNumber.the-variants.{Absent, Given}
 use Rattle.plan.specs.declared.Main.{Main}
@@ -58,6 +59,10 @@ known [] es = true
 known (p ∷ ps) [] = true
 known (p ∷ ps) (e ∷ es) = among predictors p && (among encodings e && known ps es)
 
+-- n fields of one kind by their lists: no more than there are rooms, and what 3 and 8 ask of them
+abbrev pub soundFields : (rooms : ℕ) → Numbers → (motor n : ℕ) → (ps es : List ℕ) → Bool
+soundFields rooms numbers motor n ps es = leb n rooms && (known ps es && isMet (unmetFrom numbers motor 0 ps ps))
+
 unfoldable pub soundMain : Main → Numbers → Bool
 soundMain m numbers =
     leb (fields m) 62
@@ -66,9 +71,12 @@ soundMain m numbers =
     && isMet (unmetMain m numbers)))
 
 unfoldable pub soundSlow : Slow → Numbers → Bool
-soundSlow s numbers =
-    leb (s .n) 16 && (known (take (s .n) (s .predictors)) (take (s .n) (s .encodings)) && isMet (unmetSlow s numbers))
+soundSlow s numbers = soundFields 16 numbers (s .n) (s .n) (take (s .n) (s .predictors)) (take (s .n) (s .encodings))
 
--- a field count over 62 (slow: 16), or a predictor, encoding or need that 3 or 8 refuses, is not sound
+-- a frame interval of 1/1, beside any intra interval but 0, which stands for one that could not be read
+unfoldable pub isInterval : FrameInterval → Bool
+isInterval v = leb 1 (v .intra) && (eqb (v .numerator) 1 && eqb (v .denominator) 1)
+
+-- a field count over 62 (slow: 16), or a predictor, encoding, need or interval that 3, 8 or 9 refuses, is not sound
 unfoldable pub sound : Definition → Bool
-sound d = soundMain (d .main) (d .numbers) && soundSlow (d .slow) (d .numbers)
+sound d = soundMain (d .main) (d .numbers) && (soundSlow (d .slow) (d .numbers) && isInterval (d .settings .interval))

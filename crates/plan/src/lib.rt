@@ -4,7 +4,7 @@ ghost use mathlib.Core.Path.{_≡_};
 ghost use Prim.Native.Nat.{min};
 ghost use lib.ListN.{length};
 ghost use Rattle.plan.specs.Known.{among, predictors, encodings};
-ghost use Rattle.plan.specs.Owes.{FieldsOwes, NothingOwes, UnmetMainOwes, UnmetSlowOwes, IsSoundOwes};
+ghost use Rattle.plan.specs.Owes.{CodeOwes, OfOwes, FieldsOwes, IsIntervalOwes, PlainOwes, NothingOwes, UnmetMainOwes, UnmetSlowOwes, AreSoundOwes, IsSoundOwes};
 ghost use Rattle.plan.specs.Sound.{isGiven, met, unmetFrom, isMet, known, soundMain, soundSlow};
 
 // The main frames: the items of each list (0 where refused, 2 with no fields), and the fields behind loopIteration and time.
@@ -41,16 +41,23 @@ pub struct Numbers {
     pub min_motor: HeaderNumber,
 }
 
-// How many of how many loop iterations are logged.
+// How often loop iterations are logged: every so many an intra frame, and of so many so many at all.
 pub struct FrameInterval {
+    pub intra: u32,
     pub numerator: u32,
     pub denominator: u32,
+}
+
+// What is chosen beside the lists and the header numbers.
+pub struct Settings {
+    pub interval: FrameInterval,
 }
 
 pub struct Definition {
     pub main: Main,
     pub slow: Slow,
     pub numbers: Numbers,
+    pub settings: Settings,
 }
 
 // Whether all predictors have what they need, or the first field with one that lacks something.
@@ -156,6 +163,49 @@ fn is_all_met(need: Need) -> bool
     }
 }
 
+// Whether the walk can go by n fields of one kind: what checks 3 and 8 ask, and no more fields than rooms.
+pub fn are_sound(
+    n: usize,
+    predictors: [u8; 62],
+    encodings: [u8; 62],
+    motor: usize,
+    numbers: Numbers,
+) -> bool
+    ensures { λ r. ⌜ AreSoundOwes n predictors encodings motor numbers r ⌝ }
+{
+    if 62 < n {
+        return false;
+    }
+    if !are_known(&predictors[..n], &encodings[..n]) {
+        return false;
+    }
+    let same = predictors;
+    is_all_met(unmet(numbers, motor, &predictors[..n], &same[..n]))
+}
+
+impl HeaderNumber {
+    // As a number: 65536 stands for an absent one.
+    pub fn code(self) -> u32
+        ensures { λ r. ⌜ CodeOwes self r ⌝ }
+    {
+        match self {
+            HeaderNumber::Absent => 65536,
+            HeaderNumber::Given(v) => v as u32,
+        }
+    }
+
+    // And back: whatever needs more than 16 bits is absent.
+    pub fn of(code: u64) -> HeaderNumber
+        ensures { λ r. ⌜ OfOwes code r ⌝ }
+    {
+        if code < 65536 {
+            HeaderNumber::Given(code as u16)
+        } else {
+            HeaderNumber::Absent
+        }
+    }
+}
+
 impl Main {
     // How many fields there are.
     pub fn fields(self) -> usize
@@ -225,6 +275,36 @@ impl Slow {
     }
 }
 
+impl FrameInterval {
+    // Whether every loop iteration is logged, and the intra interval is one that can be.
+    pub fn is_interval(self) -> bool
+        ensures { λ r. ⌜ IsIntervalOwes self r ⌝ }
+    {
+        if self.intra < 1 {
+            return false;
+        }
+        if self.numerator == 1 {
+            return self.denominator == 1;
+        }
+        false
+    }
+}
+
+impl Settings {
+    // Every loop iteration is logged.
+    pub fn plain() -> Settings
+        ensures { λ r. ⌜ PlainOwes r ⌝ }
+    {
+        Settings {
+            interval: FrameInterval {
+                intra: 1,
+                numerator: 1,
+                denominator: 1,
+            },
+        }
+    }
+}
+
 impl Definition {
     // A definition with no fields: what refused lists give.
     pub fn nothing() -> Definition
@@ -254,10 +334,11 @@ impl Definition {
             main,
             slow,
             numbers,
+            settings: Settings::plain(),
         }
     }
 
-    // Whether the walk can go by it: what checks 3 and 8 ask, and no more fields than rooms.
+    // Whether the walk can go by it: what checks 3, 8 and 9 ask, and no more fields than rooms.
     pub fn is_sound(self) -> bool
         ensures { λ r. ⌜ IsSoundOwes self r ⌝ }
     {
@@ -265,6 +346,10 @@ impl Definition {
         if !self.main.is_sound(numbers) {
             return false;
         }
-        self.slow.is_sound(numbers)
+        if !self.slow.is_sound(numbers) {
+            return false;
+        }
+        let settings = self.settings;
+        settings.interval.is_interval()
     }
 }

@@ -1,15 +1,11 @@
--- A buffer as it is made, and with a part of it written anew.
+-- A buffer with a part of it written anew.
 use Prim.Native.Nat.{ℕ, _+_, _≤_}
 use mathlib.Core.List.{List, _++_}
 use mathlib.Core.Path.{_≡_, sym}
 use native.Mathlib.Omega.{arith}
-use lib.ListN.{length, take, replicate, length-append, length-replicate}
+use lib.ListN.{length, take, length-append}
 use lib.Seq.{length-take-le}
 use borrow.Rule.Slice.PartMut.{putMid, postOf}
-
--- for any n, so that nothing counts to it
-pub zeros : (n : ℕ) → n ≡ length (replicate {A = ℕ} n 0)
-zeros n = sym (length-replicate n 0)
 
 -- what stands before the part, and the first n of the part
 pub put-taken : (a k n : ℕ) (xs ys : List ℕ) → a ≤ length xs → n ≤ length ys → a + n ≡ length (take (a + n) (putMid a k xs ys))

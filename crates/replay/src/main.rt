@@ -7,17 +7,22 @@ use libc::STDIN_FILENO;
 use libc::STDOUT_FILENO;
 use plan::Definition;
 use plan::Numbers;
+use plan::Settings;
 use words::escapes;
+use words::interval;
+use words::interval::Interval;
 use words::three;
 use words::three::Three;
 
 // The longest log.
 const LONGEST: usize = 8192;
 
-// What the last line `lists` says of the logs behind it: the first so many bytes of their buffer, and their header numbers.
+// What the last line `lists` says of the logs behind it: the first so many bytes of their buffer, and their header numbers; and what the last
+// line `set` does, their settings.
 struct Common {
     length: usize,
     numbers: Numbers,
+    settings: Settings,
 }
 
 fn text(s: &[u8]) {
@@ -47,10 +52,51 @@ fn lists(line: &[u8], common: Common, log: &mut [u8; LONGEST]) -> Common
         refuse(line);
         return common;
     }
+    let settings = common.settings;
     Common {
         length: lists.length,
         numbers,
+        settings,
     }
+}
+
+fn with(common: Common, settings: Settings) -> Common
+    requires { ⌜ common .length ≤ 8192 ⌝ }
+    ensures { λ r. ⌜ r .length ≤ 8192 ⌝ }
+{
+    let numbers = common.numbers;
+    Common {
+        length: common.length,
+        numbers,
+        settings,
+    }
+}
+
+// A line `set plain` or `set interval I N D`, which prints nothing. One that is not written so leaves all as it was.
+fn set(line: &[u8], common: Common) -> Common
+    requires { ⌜ common .length ≤ 8192 ⌝ }
+    ensures { λ r. ⌜ r .length ≤ 8192 ⌝ }
+{
+    let rest = words::behind(line);
+    if check::same(rest, b"plain") {
+        return with(common, Settings::plain());
+    }
+    let three = words::behind(rest);
+    let read = interval::read(three);
+    let is_alone = three::behind_three(three).len() == 0;
+    if !check::same(words::first(rest), b"interval") {
+        refuse(line);
+        return common;
+    }
+    if !is_alone {
+        refuse(line);
+        return common;
+    }
+    let Interval::Is(interval) = read else {
+        refuse(line);
+        return common;
+    };
+    with(common, Settings { interval })
 }
 
 // A case `LABEL REST`: the log goes on with REST behind the lists.
@@ -70,10 +116,11 @@ fn case(line: &[u8], common: Common, log: &mut [u8])
     }
     let n = start + rest.length;
     let numbers = common.numbers;
+    let settings = common.settings;
     text(b"= ");
     text(label);
     text(b"\n");
-    session::print_with(&log[..n], numbers);
+    session::print_with(&log[..n], numbers, settings);
 }
 
 // A line that begins with # is a heading of the table, and is copied.
@@ -89,6 +136,9 @@ fn line(s: &[u8], common: Common, log: &mut [u8; LONGEST]) -> Common
     if check::same(words::first(s), b"lists") {
         return lists(s, common, log);
     }
+    if check::same(words::first(s), b"set") {
+        return set(s, common);
+    }
     case(s, common, log);
     common
 }
@@ -96,11 +146,15 @@ fn line(s: &[u8], common: Common, log: &mut [u8; LONGEST]) -> Common
 fn lines(s: &[u8]) {
     let mut log = [0u8; LONGEST];
     let numbers = Definition::nothing().numbers;
-    let mut common = Common { length: 0, numbers };
+    let mut common = Common {
+        length: 0,
+        numbers,
+        settings: Settings::plain(),
+    };
     let mut at = 0;
     while at < s.len() {
         let rest = &s[at..];
-        let n = words::until(rest, b'\n');
+        let n = digits::until(rest, b'\n');
         let next = line(&rest[..n], common, &mut log);
         common = next;
         at += n;

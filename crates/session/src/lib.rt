@@ -8,8 +8,8 @@ ghost use Rattle.plan.specs.Sound.{sound};
 use definition::Verdict;
 use header::Header;
 use plan::Definition;
-use plan::FrameInterval;
 use plan::Numbers;
+use plan::Settings;
 use section::Walk;
 
 mod show;
@@ -42,16 +42,12 @@ fn walk(d: Definition, s: &[u8])
 }
 
 // Refused lists are not walked with.
-fn defined(log: &[u8], header: Header, numbers: Numbers)
+fn defined(log: &[u8], header: Header, numbers: Numbers, settings: Settings)
     requires { ⌜ header .section ≤ length (now log) ⌝ }
 {
     let lists = header.lists;
     let section = header.section;
-    let every = FrameInterval {
-        numerator: 1,
-        denominator: 1,
-    };
-    let defined = definition::define(log, lists, numbers, every);
+    let defined = definition::define(log, lists, numbers, settings);
     let verdict = defined.verdict;
     match verdict {
         Verdict::Pass => walk(defined.definition, &log[section..]),
@@ -59,8 +55,8 @@ fn defined(log: &[u8], header: Header, numbers: Numbers)
     }
 }
 
-// Prints a log's session on standard output. The header numbers are given, since document 01 takes none from a log's lines.
-pub fn print_with(log: &[u8], numbers: Numbers) {
+// Prints a log's session on standard output. The header numbers and settings are given, since document 01 takes none from a log's lines.
+pub fn print_with(log: &[u8], numbers: Numbers, settings: Settings) {
     let header = header::read(log);
     if HEADER < header.section {
         show::text(b"too long\n");
@@ -70,11 +66,11 @@ pub fn print_with(log: &[u8], numbers: Numbers) {
         show::text(b"too long\n");
         return;
     }
-    defined(log, header, numbers);
+    defined(log, header, numbers, settings);
 }
 
-// Prints a log's session with no header numbers.
+// Prints a log's session with no header numbers and plain settings.
 pub fn print(log: &[u8]) {
     let numbers = Definition::nothing().numbers;
-    print_with(log, numbers);
+    print_with(log, numbers, Settings::plain());
 }

@@ -12,26 +12,27 @@ use lib.ListN.{length, drop, length-append, length-map}
 use lib.Seq.{sets}
 use Rattle.plan.specs.declared.Definition.{Definition}
 use Rattle.plan.specs.declared.HeaderNumber.{HeaderNumber}
-use Rattle.plan.specs.declared.HeaderNumber.the-variants.{Absent, Given}
 use Rattle.plan.specs.declared.Main.{Main}
 use Rattle.plan.specs.declared.Numbers.{Numbers}
+use Rattle.plan.specs.declared.Settings.{Settings}
 use Rattle.plan.specs.declared.Slow.{Slow}
+use Rattle.plan.specs.Plan.{numberCode, numberOf}
 use Rattle.plan.proofs.Rooms.{MainRooms, SlowRooms, slow-rooms}
 use Rattle.plan.proofs.Slow as slow
 use Rattle.bytes.specs.Bytes.{le32, le64, num64}
 use Rattle.bytes.proofs.Stores.{then-put, length-le64}
 use Rattle.store.specs.declared.TakenDefinition.{TakenDefinition}
-use Rattle.store.specs.Definition.{numberCode, numberOf, countBytes, mainBytes, slowBytes, definitionBytes, withDefinition, codesAt, definitionAt, isDefinition, noDefinition, takenDefinition}
+use Rattle.store.specs.Definition.{fitting, countBytes, mainBytes, slowBytes, settingsBytes, definitionBytes, withDefinition, codesAt, definitionAt, isDefinition, noDefinition, takenDefinition}
 
 -- ## Codes
 
-pub number-given : (c : ℕ) → c < 65536 → Given c ≡ numberOf c
-unfolding numberOf
-number-given c h = simp (lt-ltb c 65536 h)
+pub number-fits : (c : ℕ) → c < 4294967296 → c ≡ fitting c
+unfolding fitting
+number-fits c h = simp (lt-ltb c 4294967296 h)
 
-pub number-absent : (c : ℕ) → 65536 ≤ c → Absent ≡ numberOf c
-unfolding numberOf
-number-absent c h = simp (le-ltb c 65536 h)
+pub number-too-large : (c : ℕ) → 4294967296 ≤ c → 0 ≡ fitting c
+unfolding fitting
+number-too-large c h = simp (le-ltb c 4294967296 h)
 
 -- ## What is read
 
@@ -55,21 +56,27 @@ module _ (l : List ℕ) where
   numbers-at x a y b z c =
       λ i. record { «min_throttle» = (a ∙ ap numberOf x) i; «vbat_reference» = (b ∙ ap numberOf y) i; «min_motor» = (c ∙ ap numberOf z) i }
 
-  pub taken-short : {r : TakenDefinition} → r ≡ noDefinition → length l < 414 → r ≡ takenDefinition l
+  pub settings-at : {x y z a b c : ℕ} → x ≡ num64 (drop 414 l) → a ≡ fitting x → y ≡ num64 (drop 422 l) → b ≡ fitting y → z ≡ num64 (drop 430 l) → c ≡ fitting z
+      → _≡_ {A = Settings} (record { interval = record { intra = a; numerator = b; denominator = c } }) (definitionAt l .settings)
+  unfolding definitionAt
+  settings-at x a y b z c =
+      λ i. record { interval = record { intra = (a ∙ ap fitting x) i; numerator = (b ∙ ap fitting y) i; denominator = (c ∙ ap fitting z) i } }
+
+  pub taken-short : {r : TakenDefinition} → r ≡ noDefinition → length l < 438 → r ≡ takenDefinition l
   unfolding takenDefinition isDefinition
   taken-short e h = e ∙ simp (lt-leb _ _ h)
 
-  pub taken-other : {r : TakenDefinition} {x : ℕ} → r ≡ noDefinition → x ≡ num64 (drop 0 l) → (x ≡ 1 → ⊥) → 414 ≤ length l → r ≡ takenDefinition l
+  pub taken-other : {r : TakenDefinition} {x : ℕ} → r ≡ noDefinition → x ≡ num64 (drop 0 l) → (x ≡ 2 → ⊥) → 438 ≤ length l → r ≡ takenDefinition l
   unfolding takenDefinition isDefinition
-  taken-other e v n h = e ∙ simp (le-leb _ _ h, ne-eqb (num64 l) 1 (λ q. n (v ∙ q)))
+  taken-other e v n h = e ∙ simp (le-leb _ _ h, ne-eqb (num64 l) 2 (λ q. n (v ∙ q)))
 
-  pub taken-one : {x : ℕ} {m : Main} {s : Slow} {n : Numbers} → x ≡ num64 (drop 0 l) → x ≡ 1 → m ≡ definitionAt l .main → s ≡ definitionAt l .slow
-      → n ≡ definitionAt l .numbers → 414 ≤ length l
-      → _≡_ {A = TakenDefinition} (record { «is_one» = true; definition = record { main = m; slow = s; numbers = n } }) (takenDefinition l)
+  pub taken-one : {x : ℕ} {m : Main} {s : Slow} {n : Numbers} {t : Settings} → x ≡ num64 (drop 0 l) → x ≡ 2 → m ≡ definitionAt l .main → s ≡ definitionAt l .slow
+      → n ≡ definitionAt l .numbers → t ≡ definitionAt l .settings → 438 ≤ length l
+      → _≡_ {A = TakenDefinition} (record { «is_one» = true; definition = record { main = m; slow = s; numbers = n; settings = t } }) (takenDefinition l)
   unfolding takenDefinition isDefinition
-  taken-one v e m s n h =
-      (λ i. record { «is_one» = true; definition = record { main = m i; slow = s i; numbers = n i } })
-      ∙ simp (le-leb _ _ h, eq-eqb (num64 l) 1 (sym v ∙ e))
+  taken-one v e m s n t h =
+      (λ i. record { «is_one» = true; definition = record { main = m i; slow = s i; numbers = n i; settings = t i } })
+      ∙ simp (le-leb _ _ h, eq-eqb (num64 l) 2 (sym v ∙ e))
 
 -- ## What is written
 
@@ -103,6 +110,10 @@ pub length-counts : (d : Definition) → length (countBytes d) ≡ 56
 unfolding countBytes le64 le32
 length-counts d = refl
 
+pub length-settings : (s : Settings) → length (settingsBytes s) ≡ 24
+unfolding settingsBytes le64 le32
+length-settings s = refl
+
 pub length-main : (m : Main) → MainRooms m → length (mainBytes m) ≡ 310
 unfolding mainBytes
 length-main m r = simp length-append (omega (arith, r))
@@ -112,7 +123,7 @@ unfolding slowBytes
 length-slow s r = simp length-append (omega (arith, r))
 
 module _ (b₀ : List ℕ) where
-  pub put-count-bytes : (d : Definition) {b₁ b₂ b₃ b₄ b₅ b₆ b₇ : List ℕ} {x y z : ℕ} → b₁ ≡ sets b₀ 0 (le64 1) → b₂ ≡ sets b₁ 8 (le64 (d .main .n))
+  pub put-count-bytes : (d : Definition) {b₁ b₂ b₃ b₄ b₅ b₆ b₇ : List ℕ} {x y z : ℕ} → b₁ ≡ sets b₀ 0 (le64 2) → b₂ ≡ sets b₁ 8 (le64 (d .main .n))
       → b₃ ≡ sets b₂ 16 (le64 (d .main .motor)) → b₄ ≡ sets b₃ 24 (le64 (d .slow .n)) → x ≡ numberCode (d .numbers .«min_throttle») → b₅ ≡ sets b₄ 32 (le64 x)
       → y ≡ numberCode (d .numbers .«vbat_reference») → b₆ ≡ sets b₅ 40 (le64 y) → z ≡ numberCode (d .numbers .«min_motor») → b₇ ≡ sets b₆ 48 (le64 z)
       → b₇ ≡ sets b₀ 0 (countBytes d)
@@ -137,12 +148,19 @@ module _ (b₀ : List ℕ) where
       let two = and-then (listed (s .predictors) (r .rooms .slow-predictors) e) (listed (s .encodings) (r .rooms .slow-encodings) f) in
       and-then two (listed (s .signs) (r .slow-signs) g) .is
 
-  pub put-definition-bytes : (d : Definition) → MainRooms (d .main) → {b₁ b₂ b₃ : List ℕ} → b₁ ≡ sets b₀ 0 (countBytes d) → b₂ ≡ sets b₁ 56 (mainBytes (d .main))
-      → b₃ ≡ sets b₂ 366 (slowBytes (d .slow)) → 414 ≤ length b₀ → b₃ ≡ withDefinition d b₀
-  unfolding withDefinition definitionBytes
-  put-definition-bytes d r e f g h =
-      and-then (and-then (listed (countBytes d) (length-counts d) e) (listed (mainBytes (d .main)) (length-main (d .main) r) f)) (listed (slowBytes (d .slow)) refl g) .is ∙ simp (le-leb _ _ h)
+  pub put-settings-bytes : (s : Settings) {b₁ b₂ b₃ : List ℕ} → b₁ ≡ sets b₀ 414 (le64 (s .interval .intra)) → b₂ ≡ sets b₁ 422 (le64 (s .interval .numerator))
+      → b₃ ≡ sets b₂ 430 (le64 (s .interval .denominator)) → b₃ ≡ sets b₀ 414 (settingsBytes s)
+  unfolding settingsBytes
+  put-settings-bytes s e f g = and-then (and-then (counted e refl) (counted f refl)) (counted g refl) .is
 
-  pub put-short : (d : Definition) → length b₀ < 414 → b₀ ≡ withDefinition d b₀
+  pub put-definition-bytes : (d : Definition) → MainRooms (d .main) → SlowLists (d .slow) → {b₁ b₂ b₃ b₄ : List ℕ} → b₁ ≡ sets b₀ 0 (countBytes d)
+      → b₂ ≡ sets b₁ 56 (mainBytes (d .main)) → b₃ ≡ sets b₂ 366 (slowBytes (d .slow)) → b₄ ≡ sets b₃ 414 (settingsBytes (d .settings))
+      → 438 ≤ length b₀ → b₄ ≡ withDefinition d b₀
+  unfolding withDefinition definitionBytes
+  put-definition-bytes d r t e f g i h =
+      let two = and-then (listed (countBytes d) (length-counts d) e) (listed (mainBytes (d .main)) (length-main (d .main) r) f) in
+      and-then (and-then two (listed (slowBytes (d .slow)) (length-slow (d .slow) t) g)) (listed (settingsBytes (d .settings)) refl i) .is ∙ simp (le-leb _ _ h)
+
+  pub put-short : (d : Definition) → length b₀ < 438 → b₀ ≡ withDefinition d b₀
   unfolding withDefinition
   put-short d h = simp (lt-leb _ _ h)

@@ -18,8 +18,7 @@ use Rattle.section.specs.declared.Walk.{Walk}
 use Rattle.bytes.specs.Bytes.{le32, le64, words, num32, num64, nums}
 use Rattle.bytes.proofs.Stores.{length-words, then-put}
 use Rattle.store.specs.declared.TakenState.{TakenState}
-use Rattle.store.specs.Definition.{version}
-use Rattle.store.specs.State.{markCode, markOf, isMark, endingCode, cutPlace, cutBy, endingOf, isLetter, isEnding, frameBytes, frameAt, tallyBytes, tallyAt, stateBytes, withState, walkAt, isState, noState, takenState}
+use Rattle.store.specs.State.{stateVersion, markCode, markOf, isMark, endingCode, cutPlace, cutBy, endingOf, isLetter, isEnding, frameBytes, frameAt, tallyBytes, tallyAt, stateBytes, withState, walkAt, isState, noState, takenState}
 
 -- ## Codes
 
@@ -131,21 +130,21 @@ unfolding tallyBytes le32 le64
 length-tally t = refl
 
 module _ (b₀ : List ℕ) (t : Tally) where
-  pub put-tally-all : {b₁ b₂ b₃ b₄ b₅ b₆ b₇ b₈ b₉ : List ℕ} {x q : ℕ} → b₁ ≡ sets b₀ 0 (le64 version) → b₂ ≡ sets b₁ 8 (le64 (t .place)) →
+  pub put-tally-all : {b₁ b₂ b₃ b₄ b₅ b₆ b₇ b₈ b₉ : List ℕ} {x q : ℕ} → b₁ ≡ sets b₀ 0 (le64 stateVersion) → b₂ ≡ sets b₁ 8 (le64 (t .place)) →
       x ≡ endingCode (t .ending) → b₃ ≡ sets b₂ 16 (le64 x) → q ≡ cutPlace (t .ending) → b₄ ≡ sets b₃ 24 (le64 q) →
       b₅ ≡ sets b₄ 32 (le64 (getD (t .counts) 0 0)) → b₆ ≡ sets b₅ 40 (le64 (getD (t .counts) 1 0)) → b₇ ≡ sets b₆ 48 (le64 (getD (t .counts) 2 0)) →
       b₈ ≡ sets b₇ 56 (le64 (getD (t .counts) 3 0)) → b₉ ≡ sets b₈ 64 (le64 (t .trials)) →
       b₉ ≡ sets b₀ 0 (tallyBytes t)
   unfolding tallyBytes le32 le64
   put-tally-all {b₂ = b₂} {b₃ = b₃} e₁ e₂ x e₃ q e₄ e₅ e₆ e₇ e₈ e₉ =
-      let A = le64 version ++ le64 (t .place) in
+      let A = le64 stateVersion ++ le64 (t .place) in
       let B = A ++ le64 (endingCode (t .ending)) in
       let C = B ++ le64 (cutPlace (t .ending)) in
       let D = C ++ le64 (getD (t .counts) 0 0) in
       let E = D ++ le64 (getD (t .counts) 1 0) in
       let F = E ++ le64 (getD (t .counts) 2 0) in
       let G = F ++ le64 (getD (t .counts) 3 0) in
-      let p₂ = then-put b₀ 0 (le64 version) (le64 (t .place)) e₁ e₂ refl in
+      let p₂ = then-put b₀ 0 (le64 stateVersion) (le64 (t .place)) e₁ e₂ refl in
       let p₃ = then-put b₀ 0 A (le64 (endingCode (t .ending))) p₂ (put-code b₂ 16 le64 e₃ x) refl in
       let p₄ = then-put b₀ 0 B (le64 (cutPlace (t .ending))) p₃ (put-code b₃ 24 le64 e₄ q) refl in
       let p₅ = then-put b₀ 0 C (le64 (getD (t .counts) 0 0)) p₄ e₅ refl in

@@ -1,5 +1,5 @@
--- A definition as 414 bytes (the layout is this project's own). Numbers of 64 bits, low byte first, at 0 the layout's version, 8 the items of the main lists, 16 the place of `motor[0]`,
--- 24 the items of the slow lists, 32, 40 and 48 the header numbers; then a byte a room: 5 lists of 62 from 56 on, 3 of 16 from 366 on.
+-- A definition as 438 bytes (the layout is this project's own). Numbers of 64 bits, low byte first, at 0 the layout's version, 8 the items of the main lists, 16 the place of `motor[0]`,
+-- 24 the items of the slow lists, 32, 40 and 48 the header numbers; then a byte a room: 5 lists of 62 from 56 on, 3 of 16 from 366 on; then numbers again: 414 the intra interval, 422 / 430 the interval.
 use Prim.Native.Nat.{ℕ}
 use mathlib.Core.Bool.{Bool, true, false, cond, _&&_}
 use mathlib.Core.List.{List, _++_}
@@ -7,34 +7,28 @@ use lib.Dec.{eqb, ltb, leb}
 use lib.ListN.{length, take, drop}
 use lib.Seq.{sets}
 use Rattle.plan.specs.declared.Definition.{Definition}
-use Rattle.plan.specs.declared.HeaderNumber.{HeaderNumber}
-use Rattle.plan.specs.declared.HeaderNumber.the-variants.{Absent, Given}
 use Rattle.plan.specs.declared.Main.{Main}
+use Rattle.plan.specs.declared.Settings.{Settings}
 use Rattle.plan.specs.declared.Slow.{Slow}
-use Rattle.plan.specs.Plan.{nothing}
+use Rattle.plan.specs.Plan.{numberCode, numberOf, nothing}
 use Rattle.bytes.specs.Bytes.{le64, num64}
 use Rattle.store.specs.declared.TakenDefinition.{TakenDefinition}
 
-abbrev pub version : ℕ
-version = 1
+abbrev pub definitionVersion : ℕ
+definitionVersion = 2
 
 abbrev pub definitionLength : ℕ
-definitionLength = 414
+definitionLength = 438
 
--- a header number of 16 bits; 65536 where there is none
-unfoldable pub numberCode : HeaderNumber → ℕ
-numberCode Absent = 65536
-numberCode (Given v) = v
-
--- whatever needs more than 16 bits is none
-unfoldable pub numberOf : ℕ → HeaderNumber
-numberOf c = cond (ltb c 65536) (Given c) Absent
+-- a number of 32 bits; whatever needs more is 0, which no interval has
+unfoldable pub fitting : ℕ → ℕ
+fitting c = cond (ltb c 4294967296) c 0
 
 -- ## What is written
 
 unfoldable pub countBytes : Definition → List ℕ
 countBytes d =
-    le64 version
+    le64 definitionVersion
     ++ le64 (d .main .n)
     ++ le64 (d .main .motor)
     ++ le64 (d .slow .n)
@@ -48,8 +42,11 @@ mainBytes m = m .«intra_predictors» ++ m .«inter_predictors» ++ m .«intra_e
 unfoldable pub slowBytes : Slow → List ℕ
 slowBytes s = s .predictors ++ s .encodings ++ s .signs
 
+unfoldable pub settingsBytes : Settings → List ℕ
+settingsBytes s = le64 (s .interval .intra) ++ le64 (s .interval .numerator) ++ le64 (s .interval .denominator)
+
 unfoldable pub definitionBytes : Definition → List ℕ
-definitionBytes d = countBytes d ++ mainBytes (d .main) ++ slowBytes (d .slow)
+definitionBytes d = countBytes d ++ mainBytes (d .main) ++ slowBytes (d .slow) ++ settingsBytes (d .settings)
 
 -- in front of a buffer; one that is too short keeps its content
 unfoldable pub withDefinition : Definition → List ℕ → List ℕ
@@ -87,11 +84,20 @@ definitionAt bs =
             «vbat_reference» = numberOf (num64 (drop 40 bs));
             «min_motor» = numberOf (num64 (drop 48 bs));
           };
+      settings =
+          record {
+            interval =
+                record {
+                  intra = fitting (num64 (drop 414 bs));
+                  numerator = fitting (num64 (drop 422 bs));
+                  denominator = fitting (num64 (drop 430 bs));
+                };
+          };
     }
 
 -- long enough, and of this version: bytes behind it are not looked at
 unfoldable pub isDefinition : List ℕ → Bool
-isDefinition bs = leb definitionLength (length bs) && eqb (num64 bs) version
+isDefinition bs = leb definitionLength (length bs) && eqb (num64 bs) definitionVersion
 
 unfoldable pub noDefinition : TakenDefinition
 noDefinition = record { «is_one» = false; definition = nothing }

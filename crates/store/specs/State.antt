@@ -19,7 +19,9 @@ use Rattle.section.specs.declared.Walk.{Walk}
 use Rattle.section.specs.Walk.{start}
 use Rattle.bytes.specs.Bytes.{le32, le64, words, num32, num64, nums}
 use Rattle.store.specs.declared.TakenState.{TakenState}
-use Rattle.store.specs.Definition.{version}
+
+abbrev pub stateVersion : ℕ
+stateVersion = 1
 
 abbrev pub stateLength : ℕ
 stateLength = 600
@@ -73,7 +75,7 @@ frameBytes f = le32 (markCode (f .mark)) ++ le32 (f .iteration) ++ le64 (f .time
 
 unfoldable pub tallyBytes : Tally → List ℕ
 tallyBytes t =
-    le64 version
+    le64 stateVersion
     ++ le64 (t .place)
     ++ le64 (endingCode (t .ending))
     ++ le64 (cutPlace (t .ending))
@@ -111,7 +113,7 @@ walkAt bs = record { tally = tallyAt bs; history = record { last = frameAt (drop
 unfoldable pub isState : List ℕ → Bool
 isState bs =
     leb stateLength (length bs)
-    && (eqb (num64 bs) version
+    && (eqb (num64 bs) stateVersion
     && (isEnding (num64 (drop 16 bs))
     && (isMark (num32 (drop 72 bs)) && isMark (num32 (drop 336 bs)))))
 

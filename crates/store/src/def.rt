@@ -1,41 +1,23 @@
-// A definition as bytes: the version, the item counts and the place of motor[0], the header numbers, and the lists of codes.
+// A definition as bytes: the version, the item counts and the place of motor[0], the header numbers, the lists of codes, and the settings.
 ghost use mathlib.Core.Path.{_≡_};
 ghost use Prim.Native.Nat.{_≤_};
 ghost use lib.ListN.{length};
 ghost use lib.Seq.{sets};
-ghost use Rattle.store.specs.Definition.{definitionAt, numberCode, numberOf, noDefinition, countBytes, mainBytes, slowBytes};
+ghost use Rattle.store.specs.Definition.{definitionAt, fitting, noDefinition, countBytes, mainBytes, slowBytes, settingsBytes};
 ghost use Rattle.store.specs.Owes.{TakeDefinitionOwes, PutDefinitionOwes};
 use crate::DEFINITION;
+use crate::DEFINITION_VERSION;
 use crate::TakenDefinition;
-use crate::VERSION;
 use plan::Definition;
+use plan::FrameInterval;
 use plan::HeaderNumber;
 use plan::Main;
 use plan::Numbers;
+use plan::Settings;
 use plan::Slow;
 
-// 65536 stands for an absent number.
-fn number_code(number: HeaderNumber) -> u64
-    ensures { λ r. ⌜ r ≡ numberCode number ⌝ }
-{
-    match number {
-        HeaderNumber::Absent => 65536,
-        HeaderNumber::Given(v) => v as u64,
-    }
-}
-
-fn number_of(code: u64) -> HeaderNumber
-    ensures { λ r. ⌜ r ≡ numberOf code ⌝ }
-{
-    if code < 65536 {
-        HeaderNumber::Given(code as u16)
-    } else {
-        HeaderNumber::Absent
-    }
-}
-
 fn take_main(buf: &[u8]) -> Main
-    requires { ⌜ 414 ≤ length (now buf) ⌝ }
+    requires { ⌜ 438 ≤ length (now buf) ⌝ }
     ensures { λ r. ⌜ r ≡ definitionAt (now (buf .entry)) .main ⌝ }
 {
     let n = bytes::take64(buf, 8) as usize;
@@ -62,7 +44,7 @@ fn take_main(buf: &[u8]) -> Main
 }
 
 fn take_slow(buf: &[u8]) -> Slow
-    requires { ⌜ 414 ≤ length (now buf) ⌝ }
+    requires { ⌜ 438 ≤ length (now buf) ⌝ }
     ensures { λ r. ⌜ r ≡ definitionAt (now (buf .entry)) .slow ⌝ }
 {
     let n = bytes::take64(buf, 24) as usize;
@@ -81,13 +63,37 @@ fn take_slow(buf: &[u8]) -> Slow
 }
 
 fn take_numbers(buf: &[u8]) -> Numbers
-    requires { ⌜ 414 ≤ length (now buf) ⌝ }
+    requires { ⌜ 438 ≤ length (now buf) ⌝ }
     ensures { λ r. ⌜ r ≡ definitionAt (now (buf .entry)) .numbers ⌝ }
 {
     Numbers {
-        min_throttle: number_of(bytes::take64(buf, 32)),
-        vbat_reference: number_of(bytes::take64(buf, 40)),
-        min_motor: number_of(bytes::take64(buf, 48)),
+        min_throttle: HeaderNumber::of(bytes::take64(buf, 32)),
+        vbat_reference: HeaderNumber::of(bytes::take64(buf, 40)),
+        min_motor: HeaderNumber::of(bytes::take64(buf, 48)),
+    }
+}
+
+// A number that needs more than 32 bits is read as 0, which no interval has.
+fn fitting(number: u64) -> u32
+    ensures { λ r. ⌜ r ≡ fitting number ⌝ }
+{
+    if number < 4294967296 {
+        number as u32
+    } else {
+        0
+    }
+}
+
+fn take_settings(buf: &[u8]) -> Settings
+    requires { ⌜ 438 ≤ length (now buf) ⌝ }
+    ensures { λ r. ⌜ r ≡ definitionAt (now (buf .entry)) .settings ⌝ }
+{
+    Settings {
+        interval: FrameInterval {
+            intra: fitting(bytes::take64(buf, 414)),
+            numerator: fitting(bytes::take64(buf, 422)),
+            denominator: fitting(bytes::take64(buf, 430)),
+        },
     }
 }
 
@@ -107,41 +113,43 @@ pub fn take(buf: &[u8]) -> TakenDefinition
     if buf.len() < DEFINITION {
         return none();
     }
-    if bytes::take64(buf, 0) != VERSION {
+    if bytes::take64(buf, 0) != DEFINITION_VERSION {
         return none();
     }
     let main = take_main(buf);
     let slow = take_slow(buf);
     let numbers = take_numbers(buf);
+    let settings = take_settings(buf);
     TakenDefinition {
         is_one: true,
         definition: Definition {
             main,
             slow,
             numbers,
+            settings,
         },
     }
 }
 
 fn put_counts(buf: &mut [u8], d: Definition)
-    requires { ⌜ 414 ≤ length (now buf) ⌝ }
+    requires { ⌜ 438 ≤ length (now buf) ⌝ }
     ensures { λ _. ⌜ now (buf .exit) ≡ sets (now (buf .entry)) 0 (countBytes d) ⌝ }
 {
     let numbers = d.numbers;
     let throttle = numbers.min_throttle;
     let battery = numbers.vbat_reference;
     let least = numbers.min_motor;
-    bytes::put64(buf, 0, VERSION);
+    bytes::put64(buf, 0, DEFINITION_VERSION);
     bytes::put64(buf, 8, d.main.n as u64);
     bytes::put64(buf, 16, d.main.motor as u64);
     bytes::put64(buf, 24, d.slow.n as u64);
-    bytes::put64(buf, 32, number_code(throttle));
-    bytes::put64(buf, 40, number_code(battery));
-    bytes::put64(buf, 48, number_code(least));
+    bytes::put64(buf, 32, throttle.code() as u64);
+    bytes::put64(buf, 40, battery.code() as u64);
+    bytes::put64(buf, 48, least.code() as u64);
 }
 
 fn put_main(buf: &mut [u8], main: Main)
-    requires { ⌜ 414 ≤ length (now buf) ⌝ }
+    requires { ⌜ 438 ≤ length (now buf) ⌝ }
     ensures { λ _. ⌜ now (buf .exit) ≡ sets (now (buf .entry)) 56 (mainBytes main) ⌝ }
 {
     let a = main.intra_predictors;
@@ -157,7 +165,7 @@ fn put_main(buf: &mut [u8], main: Main)
 }
 
 fn put_slow(buf: &mut [u8], slow: Slow)
-    requires { ⌜ 414 ≤ length (now buf) ⌝ }
+    requires { ⌜ 438 ≤ length (now buf) ⌝ }
     ensures { λ _. ⌜ now (buf .exit) ≡ sets (now (buf .entry)) 366 (slowBytes slow) ⌝ }
 {
     let a = slow.predictors;
@@ -168,6 +176,15 @@ fn put_slow(buf: &mut [u8], slow: Slow)
     bytes::put_bytes(buf, 398, &c[..16]);
 }
 
+fn put_settings(buf: &mut [u8], settings: Settings)
+    requires { ⌜ 438 ≤ length (now buf) ⌝ }
+    ensures { λ _. ⌜ now (buf .exit) ≡ sets (now (buf .entry)) 414 (settingsBytes settings) ⌝ }
+{
+    bytes::put64(buf, 414, settings.interval.intra as u64);
+    bytes::put64(buf, 422, settings.interval.numerator as u64);
+    bytes::put64(buf, 430, settings.interval.denominator as u64);
+}
+
 // Puts a definition in front of a buffer; one that is too short keeps its content.
 pub fn put(buf: &mut [u8], d: Definition)
     ensures { λ _. ⌜ PutDefinitionOwes d (now (buf .entry)) (now (buf .exit)) ⌝ }
@@ -175,8 +192,10 @@ pub fn put(buf: &mut [u8], d: Definition)
     if DEFINITION <= buf.len() {
         let main = d.main;
         let slow = d.slow;
+        let settings = d.settings;
         put_counts(buf, d);
         put_main(buf, main);
         put_slow(buf, slow);
+        put_settings(buf, settings);
     }
 }

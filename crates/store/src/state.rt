@@ -7,8 +7,8 @@ ghost use Rattle.reader.specs.Search.{letterOf};
 ghost use Rattle.store.specs.Owes.{LetterOwes, TakeStateOwes, PutStateOwes};
 ghost use Rattle.store.specs.State.{markCode, markOf, isMark, endingCode, cutPlace, endingOf, isEnding, frameBytes, frameAt, tallyBytes, tallyAt, noState};
 use crate::STATE;
+use crate::STATE_VERSION;
 use crate::TakenState;
-use crate::VERSION;
 use frame::MainFrame;
 use frame::Mark;
 use history::History;
@@ -185,7 +185,7 @@ pub fn take(buf: &[u8]) -> TakenState
     if buf.len() < STATE {
         return none();
     }
-    if bytes::take64(buf, 0) != VERSION {
+    if bytes::take64(buf, 0) != STATE_VERSION {
         return none();
     }
     if !is_ending(bytes::take64(buf, 16)) {
@@ -227,7 +227,7 @@ fn put_tally(buf: &mut [u8], t: Tally)
 {
     let ending = t.ending;
     let counts = t.counts;
-    bytes::put64(buf, 0, VERSION);
+    bytes::put64(buf, 0, STATE_VERSION);
     bytes::put64(buf, 8, t.place as u64);
     bytes::put64(buf, 16, ending_code(ending));
     bytes::put64(buf, 24, cut_place(ending) as u64);

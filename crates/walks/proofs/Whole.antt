@@ -14,10 +14,11 @@ use Rattle.section.specs.declared.Refusal.{Refusal}
 use Rattle.section.specs.declared.Refusal.the-variants.{Unsound}
 use Rattle.section.specs.declared.Walk.{Walk}
 use Rattle.section.specs.Answers.{handed, checkedFirst, handsOut}
-use Rattle.section.specs.Owes.{RefusedOwes}
+use Rattle.section.specs.Owes.{CheckOwes, RefusedOwes}
 use Rattle.section.specs.Refusals.{admitted, checked}
 use Rattle.section.specs.Walk.{start}
-use Rattle.section.proofs.Admitted.{admitted-sound, checked-pass}
+use Rattle.section.proofs.Admitted.{admitted-sound, check-passes}
+use Rattle.section.proofs.Checks.{check-is}
 use Rattle.walks.specs.declared.Goal.the-variants.{End, Frame}
 use Rattle.walks.specs.declared.Reached.{Reached}
 use Rattle.walks.specs.declared.Sort.{Sort}
@@ -27,9 +28,9 @@ use Rattle.walks.specs.Walks.{countsOf, walked, checkedState, throughOf,
 use Rattle.walks.proofs.Fields.{hands-out-few}
 
 -- a check that passes
-module _ (d : Definition) (w : Walk) (z room : ℕ) {v : Check} (verdict : v ≡ checked d w z room) (pass : v ≡ Pass) where
+module _ (d : Definition) (w : Walk) (z room : ℕ) {v : Check} (verdict : CheckOwes d w z room v) (pass : v ≡ Pass) where
   pub passed-admitted : admitted d z w ≡ true
-  passed-admitted = checked-pass d w z room (sym verdict ∙ pass) .0
+  passed-admitted = check-passes d w z room verdict pass .0
 
   pub passed-few : (a : Answer) {n : ℕ} → n ≡ handsOut d a → n ≤ 62
   passed-few a e = rw e (hands-out-few d (admitted-sound d z w passed-admitted) a)
@@ -52,16 +53,16 @@ module _ (d : Definition) (s : List ℕ) (w : Walk) where
     pub count-is : (r : Looked) → ThroughOwes d w s r → CountOwes d s (record { answer = r .answer; tally = r .walk .tally })
     count-is r g = ap countsOf (g ∙ ap (throughOf d s) first)
 
-    module _ (of : Sort) (k : ℕ) (out : List ℕ) {v : Check} (verdict : v ≡ checked d w (length s) (length out)) where
-      fills : checkedFirst v (walked (Frame of k) d s w) w out ≡ filledOf of k d s out
+    module _ (of : Sort) (k : ℕ) (out : List ℕ) {v : Check} (verdict : CheckOwes d w (length s) (length out) v) where
+      fills : {c : Check} → v ≡ c → checkedFirst c (walked (Frame of k) d s w) w out ≡ filledOf of k d s out
       unfolding filledOf
-      fills =
-          ap (λ x. checkedFirst x (walked (Frame of k) d s w) w out) verdict
+      fills e =
+          ap (λ x. checkedFirst x (walked (Frame of k) d s w) w out) (sym e ∙ check-is d w (length s) (length out) verdict)
           ∙ ap (λ x. checkedFirst (checked d x (length s) (length out)) (walked (Frame of k) d s x) x out) first
 
       pub fill-refused : (r : Looked) {why : Refusal} → v ≡ Refused why → RefusedOwes why w r → FillOwes d s of k out r out
       unfolding checkedFirst
-      fill-refused r e g = g out ∙ ap (λ x. checkedFirst x (walked (Frame of k) d s w) w out) (sym e) ∙ fills
+      fill-refused r e g = g out ∙ fills e
 
       pub fill-passed : (r : Reached) {n : ℕ} {after : List ℕ} → v ≡ Pass → Reaches (Frame of k) d w s r → n ≡ handsOut d (r .looked .answer) → after ≡ sets out 0 (take n (r .values))
           → FillOwes d s of k out (r .looked) after
@@ -69,5 +70,4 @@ module _ (d : Definition) (s : List ℕ) (w : Walk) where
       fill-passed r pass g e put =
           let values = put ∙ ap (sets out 0) (ap (λ m. take m (r .values)) e ∙ g .fields) in
           (λ i. record { said = g .tells i .said; trials = g .tells i .trials; walk = g .tells i .walk; out = values i })
-          ∙ ap (λ x. checkedFirst x (walked (Frame of k) d s w) w out) (sym pass)
-          ∙ fills
+          ∙ fills pass

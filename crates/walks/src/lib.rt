@@ -83,21 +83,11 @@ fn walk_to(d: Definition, w: Walk, s: &[u8], goal: Goal) -> Reached
     let older_frame = history.older;
     let mut last = last_frame.values;
     let mut older = older_frame.values;
-    let mut raws = [0u32; 62];
     let mut walk = w.light();
     let mut barren = false;
     let mut values = [0u32; 62];
     loop {
-        let stepped = step_in(
-            d,
-            walk,
-            s,
-            barren,
-            &mut last,
-            &mut older,
-            &mut raws,
-            &mut values,
-        );
+        let stepped = step_in(d, walk, s, barren, &mut last, &mut older, &mut values);
         let answer = stepped.answer;
         let next = stepped.walk;
         let tally = next.tally;

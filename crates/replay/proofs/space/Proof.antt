@@ -1,5 +1,5 @@
 -- `replay::space` meets its contract. Assumes nothing.
-use Rattle.replay.proofs.Parts.{zeros}
+use Rattle.words.proofs.Buffers.{zeros}
 use Rattle.replay.proofs.space.Statement.{statement}
 use Rattle.replay.proofs.space.Tie as tie
 

@@ -25,6 +25,6 @@ fields-of-spec =
     (λ c. search needs)
     (λ c. c .fields .ensures ∙ ap (handsOut _) (sym (c .before .enum-told4 .given .1)))
     (λ c. c .fields2 .ensures ∙ ap (handsOut _) (sym (c .before .enum-told5 .given .1)))
-    (λ c. search needs)
+    (λ c. ap (handsOut _) (sym (c .enum-told6 .given .1)))
     (λ c. search needs)
     (λ c. search needs))

@@ -12,11 +12,11 @@ use Rattle.walks.proofs.walk_to.Statement.{statement}
 use Rattle.walks.proofs.walk_to.Tie as tie
 
 abbrev Inv-loop : tie.InvT-loop
-Inv-loop d s goal last₀ older₀ raws₀ walk₀ barren₀ values₀ last older raws walk barren values =
+Inv-loop d s goal last₀ older₀ walk₀ barren₀ values₀ last older walk barren values =
     Turn goal d s (walkOf walk₀ last₀ older₀) (walkOf walk last older) barren
 
 abbrev μ-loop : tie.MeasureT-loop
-μ-loop d s goal last₀ older₀ raws₀ walk₀ barren₀ values₀ last older raws walk barren values = left s (walkOf walk last older)
+μ-loop d s goal last₀ older₀ walk₀ barren₀ values₀ last older walk barren values = left s (walkOf walk last older)
 
 pub walk-to-spec : {M : Type 1} → statement M
 walk-to-spec =
@@ -29,7 +29,7 @@ walk-to-spec =
     let a = c .before .before .before .before .before .before .before in
     turn-first _ _ _ (a .args .w) (c .light .ensures) (a .pre) (walk-counts (a .args .w) (a .good .1 .0)))
     (λ c κs.
-    let a = c .before .before .before .before in
+    let a = c .before .before .before in
     let t = a .loop .inv .ready in ((t .kept .so, ready-rooms _ _ t refl), t .right))
     (λ c κs. search needs)
     (λ c κs. search needs)
@@ -37,17 +37,17 @@ walk-to-spec =
     let a = c .before in
     let b = a .before in
     let e = b .before .before .before in
-    let f = e .before .before .before .before .before in
+    let f = e .before .before .before .before in
     let g = f .before in
     let h = g .before .before .before .before .before .before .before in
     reaches-whole _ _ _ (light-whole (h .args .w) (g .light .ensures)) (c .with .ensures) (turn-last _ _ _ (f .loop .inv) (e .step-in .ensures) (b .is-last .ensures) (a .if1 .taken) refl))
     (λ c.
     let a = c .before in
     let b = a .before .before .before in
-    let e = b .before .before .before .before .before in
+    let e = b .before .before .before .before in
     turn-less _ _ _ (e .loop .inv) (b .step-in .ensures) (a .is-last .ensures) (c .if1 .left))
     (λ c.
     let a = c .before in
     let b = a .before .before .before in
-    let e = b .before .before .before .before .before in
+    let e = b .before .before .before .before in
     turn-again _ _ _ (e .loop .inv) (b .step-in .ensures) (a .is-last .ensures) (c .if1 .left)))

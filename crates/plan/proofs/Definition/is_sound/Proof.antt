@@ -1,6 +1,6 @@
--- `plan::Definition::is_sound` meets its contract: it is sound where both parts are. Assumes nothing.
+-- `plan::Definition::is_sound` meets its contract: it is sound where its fields and its interval are. Assumes nothing.
 use borrow.Author.Needs.{needs}
-use Rattle.plan.proofs.Sound.{sound-main-fails, sound-slow-decides}
+use Rattle.plan.proofs.Sound.{sound-main-fails, sound-slow-fails, sound-interval-decides}
 use Rattle.plan.proofs.Definition.is_sound.Statement.{statement}
 use Rattle.plan.proofs.Definition.is_sound.Tie as tie
 
@@ -11,4 +11,6 @@ is-sound-spec =
     (λ c κs. search needs)
     (λ c. search sound-main-fails)
     (λ c κs. search needs)
-    (λ c. search sound-slow-decides))
+    (λ c. search sound-slow-fails)
+    (λ c κs. search needs)
+    (λ c. search sound-interval-decides))

@@ -1,4 +1,4 @@
--- `store::def::put_counts` meets its contract: seven numbers, one behind the other. It requires room for 414 bytes.
+-- `store::def::put_counts` meets its contract: seven numbers, one behind the other. It requires room for 438 bytes.
 use borrow.Author.Needs.{needs}
 use Rattle.store.proofs.Definitions.{put-count-bytes}
 use Rattle.store.proofs.def.put_counts.Statement.{statement}
@@ -13,10 +13,13 @@ put-counts-spec =
     (λ c κs. search needs)
     (λ c κs. search needs)
     (λ c κs. search needs)
+    (λ c. search needs)
     (λ c κs. search needs)
     (λ c κs. search needs)
+    (λ c. search needs)
     (λ c κs. search needs)
     (λ c κs. search needs)
+    (λ c. search needs)
     (λ c κs. search needs)
     (λ c. search needs)
     (λ c.
@@ -27,5 +30,5 @@ put-counts-spec =
     let motor = items .before .before .before .before in
     let n = motor .before .before .before .before in
     let version = n .before .before .before .before in
-    put-count-bytes _ _ (version .put64 .ensures) (n .put642 .ensures) (motor .put643 .ensures) (items .put644 .ensures) (throttle .before .number-code .ensures)
-    (throttle .put645 .ensures) (battery .before .number-code2 .ensures) (battery .put646 .ensures) (least .before .number-code3 .ensures) (least .put647 .ensures)))
+    put-count-bytes _ _ (version .put64 .ensures) (n .put642 .ensures) (motor .put643 .ensures) (items .put644 .ensures) (throttle .before .code .ensures)
+    (throttle .put645 .ensures) (battery .before .code2 .ensures) (battery .put646 .ensures) (least .before .code3 .ensures) (least .put647 .ensures)))

@@ -1,4 +1,4 @@
--- `store::def::put_main` meets its contract: five arrays of 62, one behind the other. It requires room for 414 bytes.
+-- `store::def::put_main` meets its contract: five arrays of 62, one behind the other. It requires room for 438 bytes.
 use borrow.Author.Needs.{needs}
 use native.Mathlib.Omega.{arith}
 use Rattle.plan.proofs.Rooms.{main-rooms}

@@ -1,4 +1,4 @@
--- `store::def::put_slow` meets its contract: three arrays of 16, one behind the other. It requires room for 414 bytes.
+-- `store::def::put_slow` meets its contract: three arrays of 16, one behind the other. It requires room for 438 bytes.
 use borrow.Author.Needs.{needs}
 use native.Mathlib.Omega.{arith}
 use Rattle.store.proofs.Definitions.{slow-lists, put-slow-bytes}

@@ -16,6 +16,9 @@ take-spec =
     (λ c κs. search needs)
     (λ c κs. search needs)
     (λ c κs. search needs)
+    (λ c κs. search needs)
     (λ c.
-    let v = c .before .before .before in
-    taken-one _ (v .before .take64 .ensures) (v .if2 .left) (c .before .before .take-main .ensures) (c .before .take-slow .ensures) (c .take-numbers .ensures) (search needs)))
+    let m = c .before .before .before in
+    let v = m .before in
+    taken-one _ (v .before .take64 .ensures) (v .if2 .left) (m .take-main .ensures) (c .before .before .take-slow .ensures) (c .before .take-numbers .ensures) (c .take-settings .ensures)
+    (search needs)))

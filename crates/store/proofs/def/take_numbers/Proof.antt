@@ -1,4 +1,4 @@
--- `store::def::take_numbers` meets its contract, number by number. It requires 414 bytes.
+-- `store::def::take_numbers` meets its contract, number by number. It requires 438 bytes.
 use borrow.Author.Needs.{needs}
 use Rattle.store.proofs.Definitions.{numbers-at}
 use Rattle.store.proofs.def.take_numbers.Statement.{statement}
@@ -17,4 +17,4 @@ take-numbers-spec =
     (λ c.
     let b = c .before .before in
     let a = b .before .before in
-    numbers-at _ (a .before .take64 .ensures) (a .number-of .ensures) (b .before .take642 .ensures) (b .number-of2 .ensures) (c .before .take643 .ensures) (c .number-of3 .ensures)))
+    numbers-at _ (a .before .take64 .ensures) (a .of .ensures) (b .before .take642 .ensures) (b .of2 .ensures) (c .before .take643 .ensures) (c .of3 .ensures)))
