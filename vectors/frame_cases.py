@@ -268,6 +268,31 @@ def sizes():
     yield slow("no-slow-fields-with-bytes", "", "", "0000", (1, 2, 3))
 
 
+def lists():
+    """Fields by lists of their own: what a walk's definition would be refused for is refused."""
+    none = "- - -"
+    for name, rest in (
+        ("62", f"62 - - - {none} 00"),
+        ("63", f"63 - - - {none} 00"),
+        ("zeros-behind", f"3 1 0 - {none} 050203"),
+        ("predictor-12", f"1 0 c - {none} 02"),
+        ("predictor-12-behind", f"1 00 0c - {none} 02"),
+        ("encoding-2", f"1 2 0 - {none} 02"),
+        ("encoding-2-last", f"2 02 00 - {none} 02"),
+        ("4-absent", "1 0 4 - - 7 7 02"),
+        ("9-absent", "1 0 9 - 7 - 7 02"),
+        ("11-absent", "1 0 b - 7 7 - 02"),
+        ("given", "3 000 49b - 7 8 9 020202"),
+        ("5-at-itself", f"2 00 05 1 {none} 0202"),
+        ("5-behind", f"2 00 05 0 {none} 0202"),
+        ("5-none", f"1 0 5 - {none} 02"),
+        ("cut", f"1 0 8 - {none} -"),
+        ("corrupt", f"1 6 0 - {none} ffffffff10"),
+        ("refused-first", f"2 02 00 - {none} -"),
+    ):
+        yield f"fields by-{name} {rest}"
+
+
 # Frames of any kind.
 
 
@@ -301,7 +326,7 @@ def any_frame(rng, label):
 
 def any_frames():
     rng = random.Random(1)
-    for k in range(24):
+    for k in range(18):
         yield any_frame(rng, f"any-{k}")
 
 
@@ -343,6 +368,7 @@ def no_cases():
     yield from ("intra x - - - - - - I/1/2/0 0506", "intra x - - - - - - I/1/2/, 0506", "intra x 11 00 - - - - I/1/2/3 05060000", "intra x 11 00 - - - - I/1/2/3,,4 05060000")
     yield from (f"intra x - - - - - - - {word}" for word in ("", "0", "050", "0g", "FF", "--", "05 06", "0506 ", "00" * (frames.SECTION + 1)))
     yield from ("intra x - - - - - - 0506", "inter x - - - - - - - 05", "inter x - - - - - - - - - 05", "Intra x - - - - - - - 0506", " intra x - - - - - - - 0506", "intra", "inter", "frame", "? x")
+    yield from ("fields x - 0 0 - - - - 02", "fields x 1 0 - - - - - 02", "fields x 1 0 g - - - - 02", "fields x 1 0 0 - - - - - 02", "fields")
 
 
 SECTIONS = (
@@ -363,6 +389,7 @@ SECTIONS = (
     ("Short groups", short_groups),
     ("Faults, in reading order", faults),
     ("Most fields, and none", sizes),
+    ("Fields by lists", lists),
     ("Any frame", any_frames),
     ("What the Rust was asked (vectors/oracle-frames.txt)", asked_of_the_rust),
     ("How cases are written", small_matters),

@@ -12,6 +12,7 @@ import decoders
 
 WORD = 2**32
 TOP = 2**64 - 1
+PREDICTORS = range(12)
 ENCODINGS = (0, 1, 3, 6, 7, 8, 9)
 SIZES = {6: 8, 7: 3, 8: 4}
 
@@ -162,6 +163,39 @@ def read(kind, fields, last, older, data, place=0):
         return "corrupt", None
 
 
+# Fields by lists of their own.
+
+
+def is_sound(fields):
+    """Whether refusals 3 and 8 pass the fields: predictors and encodings that there are, and what predictors need."""
+    numbers = dict(zip((4, 9, 11), fields.numbers))
+    return all(
+        predictor in PREDICTORS
+        and encoding in ENCODINGS
+        and numbers.get(predictor, 0) is not None
+        and (predictor != 5 or (fields.motor is not None and fields.motor < i))
+        for i, (predictor, encoding) in enumerate(zip(fields.predictors, fields.encodings))
+    )
+
+
+def by_lists(count, fields, data):
+    """The first fields of two lists, each with zeros behind it, and no frame before: what they are, or why there are none."""
+    if count > MAIN_MOST:
+        return "refused 10 0"
+    encodings, predictors = (((*codes, *[0] * MAIN_MOST))[:count] for codes in (fields.encodings, fields.predictors))
+    fields = fields._replace(encodings=encodings, predictors=predictors)
+    if not is_sound(fields):
+        return "refused 10 0"
+    s = decoders.Section(data, 0)
+    try:
+        values = values_of(fields, raw_values(encodings, s), None, None)
+    except decoders.Cut:
+        return "cut"
+    except decoders.Corrupt:
+        return "corrupt"
+    return " ".join(map(str, [*values, "next", s.place]))
+
+
 # What the program is asked, and what it prints.
 
 NUMBER = "([0-9]+)"
@@ -177,6 +211,7 @@ FORMS = {
     "P": re.compile(f"inter ([^ ]*) {FIELDS} {OPTION} {OPTIONS} {BEFORE} {BEFORE} {BYTES}"),
     "S": re.compile(f"slow ([^ ]*) {FIELDS} {OPTIONS} {BYTES}"),
 }
+LISTS = re.compile(f"fields ([^ ]*) {NUMBER} (-|[0-9a-f]+) (-|[0-9a-f]+) {OPTION} {OPTIONS} {BYTES}")
 WORDS = {"I": "intra", "P": "inter", "S": "slow"}
 
 
@@ -233,6 +268,16 @@ def frame_words(kind, m):
     return label, Fields(encodings, predictors, motor, numbers), *[*frames, None, None][:2], bytes_of(data)
 
 
+def lists_answer(m):
+    """Label, and what the fields are."""
+    label, count, encodings, predictors, motor, *numbers, data = m.groups()
+    encodings, predictors = codes(encodings, MAIN_MOST), codes(predictors, MAIN_MOST)
+    if len(encodings) != len(predictors):
+        raise Wrong
+    fields = Fields(encodings, predictors, decimal(motor), tuple(decimal(word, 65535) for word in numbers))
+    return f"{label} = {by_lists(decimal(count), fields, bytes_of(data))}"
+
+
 def predict_answer(m):
     predictor, encoding = (decimal(word, 255) for word in m.group(1, 2))
     last, older, raw, skipped, motor = (decimal(word, WORD - 1) for word in m.group(3, 4, 5, 6, 7))
@@ -262,6 +307,9 @@ def answered(line):
         m = PREDICT.fullmatch(line)
         if m:
             return f"{line} = {predict_answer(m)}"
+        m = LISTS.fullmatch(line)
+        if m:
+            return lists_answer(m)
         for kind, form in FORMS.items():
             m = form.fullmatch(line)
             if m:

@@ -51,7 +51,7 @@ def at_the_end(log):
     return " " + text.removesuffix(" ") + "\\x20" * text.endswith(" ") if text else ""
 
 
-def define(label, log, numbers="- - -", interval="1 1"):
+def define(label, log, numbers="- - -", interval="1 1 1"):
     return f"define {label} {numbers} {interval}{at_the_end(log)}"
 
 
@@ -228,10 +228,15 @@ def motor():
 
 def interval():
     for n, d in ((1, 2), (2, 1), (0, 0), (0, 1), (2, 2), (1, 2**32 - 1)):
-        yield of(f"{n}-of-{d}", BARE, interval=f"{n} {d}")
-    yield of("01-of-001", BARE, interval="01 001")
-    yield of("9-behind-8", main(field("a", "4")), interval="1 2")
-    yield of("9-behind-slow-3", BARE, slow(("s", "x", "0", "0")), interval="1 2")
+        yield of(f"{n}-of-{d}", BARE, interval=f"1 {n} {d}")
+    yield of("01-of-001", BARE, interval="0001 01 001")
+    for intra in (0, 2, 32, 2**32 - 1):
+        yield of(f"intra-{intra}", BARE, interval=f"{intra} 1 1")
+    yield of("intra-32-and-1-of-2", BARE, interval="32 1 2")
+    yield of("9-behind-8", main(field("a", "4")), interval="1 1 2")
+    yield of("9-behind-8-intra", main(field("a", "4")), interval="0 1 1")
+    yield of("9-behind-slow-3", BARE, slow(("s", "x", "0", "0")), interval="1 1 2")
+    yield of("9-behind-slow-8", BARE, slow(("s", "9", "0", "0")), interval="1 2 2")
 
 
 def signs():
@@ -322,25 +327,26 @@ def names():
 
 
 def no_cases():
-    yield from ("", "define", "define a", "define a - - - 1", "define a - - 1 1", "define a  - - 1 1", "defined a - - - 1 1", " define a - - - 1 1")
-    yield from ("define a 65536 - - 1 1", "define a - 65536 - 1 1", "define a - - 65536 1 1", "define a - -- - 1 1", "define a - - +1 1 1")
-    yield from ("define a - - - 4294967296 1", "define a - - - 1 4294967296", "define a - - - - 1", "define a - - - 1 -1", "define a - - - 1 1x")
-    yield from (f"define a - - - 1 1 H {wrong}" for wrong in ("\\", "\\q", "\\x", "\\x4", "\\xg0", "\\x0g", "\\xAB", "\\X41", "\\N", "\\0", "\\x0\\n", "\\\\\\"))
+    yield from ("", "define", "define a", "define a - - - 1", "define a - - - 1 1", "define a - - 1 1 1", "define a  - - 1 1 1", "defined a - - - 1 1 1", " define a - - - 1 1 1")
+    yield from ("define a 65536 - - 1 1 1", "define a - 65536 - 1 1 1", "define a - - 65536 1 1 1", "define a - -- - 1 1 1", "define a - - +1 1 1 1")
+    yield from ("define a - - - 4294967296 1 1", "define a - - - 1 4294967296 1", "define a - - - 1 1 4294967296")
+    yield from ("define a - - - - 1 1", "define a - - - 1 - 1", "define a - - - 1 1 -1", "define a - - - 1 1 1x")
+    yield from (f"define a - - - 1 1 1 H {wrong}" for wrong in ("\\", "\\q", "\\x", "\\x4", "\\xg0", "\\x0g", "\\xAB", "\\X41", "\\N", "\\0", "\\x0\\n", "\\\\\\"))
     yield from ("name", "name a", "name a main", "name a main 0", "name a main 0 -", "name a main 0 - ", "name a main 0  - -")
     yield from ("name a Main 0 - -", "name a gps 0 - -", "name a main - - -", f"name a main {2**64} - -", "name a main 0 \\q - ", "name a main 0 - \\x -")
     yield from ("name a main 0 - - \\", "shapes ", "shapes 1", "Shapes", "names a main 0 - -", "? a", "\xc3\xa9")
-    yield f"define a - - - 1 1 {'a' * (TEXT + 1)}"
+    yield f"define a - - - 1 1 1 {'a' * (TEXT + 1)}"
 
 
 def small_matters():
-    yield "define  - - - 1 1"
-    yield "define none - - - 1 1"
-    yield "define one-space - - - 1 1 "
-    yield "define two-spaces - - - 1 1  H "
-    yield "define zeros 00000000000000000000065535 - 000 0001 1"
-    yield "define as-it-is - - - 1 1 H a\xc3\xa9\t"
-    yield "define escapes - - - 1 1 H \\x5c\\\\x5c\\r\\x0d\\n\\x0aI"
-    yield f"define longest - - - 1 1 H {'a' * (TEXT - 4)}\\x0a\\n"
+    yield "define  - - - 1 1 1"
+    yield "define none - - - 1 1 1"
+    yield "define one-space - - - 1 1 1 "
+    yield "define two-spaces - - - 1 1 1  H "
+    yield "define zeros 00000000000000000000065535 - 000 0001 1 01"
+    yield "define as-it-is - - - 1 1 1 H a\xc3\xa9\t"
+    yield "define escapes - - - 1 1 1 H \\x5c\\\\x5c\\r\\x0d\\n\\x0aI"
+    yield f"define longest - - - 1 1 1 H {'a' * (TEXT - 4)}\\x0a\\n"
     yield "name missing-log main 0 - -"
     yield "name -- main 0 -- --"
 
@@ -373,6 +379,6 @@ def logs():
     """The cases of the table that the Rust can be asked: label, log and header numbers."""
     for line in table():
         case = lists.define_words(line)
-        if case and case[2] == (1, 1) and case[3]:
+        if case and case[2] == lists.PLAIN and case[3]:
             label, numbers, _, log = case
             yield label, log, numbers

@@ -7,6 +7,7 @@ Lines are text of one character a byte (latin-1), logs and items are bytes.
 import io
 import itertools
 import re
+from typing import NamedTuple
 
 # Lists 0 to 5, by the lines that carry them; the slow ones have no 2 and no 4.
 MAIN = (b"Field I name", b"Field I predictor", b"Field P predictor", b"Field I encoding", b"Field P encoding", b"Field I signed")
@@ -26,9 +27,19 @@ REASONS = {
     5: 'MissingField { frame: Intra, field: "time" }',
 }
 
-# The longest text that a case of lists can hold.
+# The most bytes that the program reads, and of a text of a case.
+INPUT_MOST = 2**17
 TEXT = 2048
 NO_NUMBERS = (None, None, None)
+
+
+class Settings(NamedTuple):
+    """What is chosen beside the lists and the header numbers: the intra interval, and the frame interval's two numbers."""
+
+    interval: tuple = (1, 1, 1)
+
+
+PLAIN = Settings()
 
 
 class Refused(Exception):
@@ -139,12 +150,13 @@ def slow_fields(values, numbers):
     return fields
 
 
-def define(log, numbers=NO_NUMBERS, interval=(1, 1)):
+def define(log, numbers=NO_NUMBERS, settings=PLAIN):
     """The fields of main and slow frames, or a refusal: main lists first, slow ones next, then the interval."""
     values, _ = header(log)
     main = main_fields(values, numbers)
     slow = slow_fields(values, numbers)
-    if interval != (1, 1):
+    intra, *every = settings.interval
+    if intra < 1 or every != [1, 1]:
         raise Refused(9, 0)
     return main, slow
 
@@ -205,10 +217,10 @@ def names_to(fields, text):
     return ["none" if name is None else quoted(name[0]) for name in names]
 
 
-def define_answer(numbers, interval, log):
+def define_answer(numbers, settings, log):
     values, section = header(log)
     try:
-        main, slow = define(log, numbers, interval)
+        main, slow = define(log, numbers, settings)
     except Refused as refused:
         return f"section {section} {refused}"
     names = [name for name, *_ in main[2:]]
@@ -217,6 +229,7 @@ def define_answer(numbers, interval, log):
     words += ["slow", len(slow), "fields", *(shown(p, e, sign(s)) for _, p, e, s in slow)]
     words += ["numbers", *("-" if number is None else number for number in numbers)]
     words += ["names", *names_to(main, values[MAIN[0]]), "slow", *names_to(slow, values.get(SLOW[0], b""))]
+    words += ["interval", *settings.interval]
     return " ".join(map(str, words))
 
 
@@ -266,17 +279,19 @@ def header_numbers(words):
     return None if any(number is not None and number >= 2**16 for number in numbers) else numbers
 
 
+def interval_settings(words):
+    """The settings with an interval, or None where one of its numbers is too large."""
+    interval = tuple(map(int, words))
+    return None if max(interval) >= 2**32 else Settings(interval)
+
+
 def define_words(line):
-    """Label, header numbers, interval and log of a case `define`, or None where the line is none."""
-    m = re.fullmatch(r"define ([^ ]*) (-|[0-9]+) (-|[0-9]+) (-|[0-9]+) ([0-9]+) ([0-9]+)(?: (.*))?", line, re.DOTALL)
+    """Label, header numbers, settings and log of a case `define`, or None where the line is none."""
+    m = re.fullmatch(r"define ([^ ]*) (-|[0-9]+) (-|[0-9]+) (-|[0-9]+) ([0-9]+) ([0-9]+) ([0-9]+)(?: (.*))?", line, re.DOTALL)
     if not m:
         return None
-    numbers = header_numbers(m.group(2, 3, 4))
-    interval = int(m[5]), int(m[6])
-    log = unescaped(m[7] or "")
-    if None in (numbers, log) or max(interval) >= 2**32:
-        return None
-    return m[1], numbers, interval, log
+    numbers, settings, log = header_numbers(m.group(2, 3, 4)), interval_settings(m.group(5, 6, 7)), unescaped(m[8] or "")
+    return None if None in (numbers, settings, log) else (m[1], numbers, settings, log)
 
 
 def name_words(line):

@@ -17,6 +17,7 @@ import frames
 import list_cases
 import lists
 import rereads
+import said
 import sections
 import walk_cases
 import walks
@@ -276,16 +277,27 @@ def numbers_table():
     return table(random.Random(1))
 
 
+def list_answered(line):
+    return said.answered(line) or lists.answered(line)
+
+
 def lists_table():
     lines = list_cases.table()
-    hold_labels("lists", labels_of(lines, lists.answered, "shapes"))
+    hold_labels("lists", labels_of(lines, lists.answered, "shapes") + [said.label(line) for line in said.table() if said.answered(line)])
     for line in lines:
         label, _, answer = lists.answered(line).partition(" = ")
         if list_cases.DOCUMENT.get(label, "") not in answer:
             sys.exit(f"make.py: document 01 says {list_cases.DOCUMENT[label]}, lists.py says {answer}")
     if lists.shapes() != SHAPES.read_text("ascii").removesuffix("\n"):
         sys.exit("make.py: the shapes of lists.py are not those of oracle/shapes.txt")
-    return lines
+    return lines + said_table()
+
+
+def said_table():
+    for line, answer in said.GIVEN:
+        if said.answered(line).partition(" = ")[2] != answer:
+            sys.exit(f"make.py: of {line} it is given {answer}, said.py says {said.answered(line)}")
+    return said.table()
 
 
 def frames_table():
@@ -340,10 +352,10 @@ def recorded_walks():
 
 
 def replay_files(lines):
-    """The table of replay, and behind it what is recorded, to which no line `lists` of the table may reach."""
+    """The table of replay, and behind it what is recorded, to which no line `lists` and no line `set` of the table may reach."""
     asked, said = recorded_walks()
     printed = [line for answer in walks.answers(lines) for line in answer]
-    return files("replay", [*lines, "lists - - -", *asked], printed + said, walks.INPUT_MOST)
+    return files("replay", [*lines, "lists - - -", "set plain", *asked], printed + said, walks.INPUT_MOST)
 
 
 def hold_walks():
@@ -403,7 +415,7 @@ def replay():
 
 def main():
     number_lines, list_lines, frame_lines, walk_lines = numbers_table(), lists_table(), frames_table(), walks_table()
-    made = files("numbers", number_lines, map(answered, number_lines)) | files("lists", list_lines, map(lists.answered, list_lines))
+    made = files("numbers", number_lines, map(answered, number_lines)) | files("lists", list_lines, map(list_answered, list_lines), lists.INPUT_MOST)
     made |= files("frames", frame_lines, map(frames.answered, frame_lines)) | replay_files(walk_lines) | reread_files()
     counted = f"{count(number_lines)} vectors of numbers, {count(list_lines)} of lists, {count(frame_lines)} of frames and {count(walk_lines)} of walks"
     if sys.argv[1:] == ["--check"]:
@@ -423,7 +435,7 @@ def main():
 
 
 def count(lines):
-    return sum(not line.startswith(("#", "lists ")) for line in lines)
+    return sum(not line.startswith(("#", "lists ", "set ")) for line in lines)
 
 
 if __name__ == "__main__":

@@ -394,6 +394,29 @@ def common_lists():
     yield "lists - - -"
 
 
+def settings():
+    """The interval, which 9 judges behind all that is found of the lists; a line `lists` leaves it as it is."""
+    yield common("- - -", MOTOR)
+    for words in ("1 1 1", "32 1 1", "4294967295 1 1", "0 1 1", "1 2 1", "1 1 2", "1 2 2", "1 0 0", "32 1 2"):
+        yield f"set interval {words}"
+        yield behind(f"interval-{words.replace(' ', '-')}", SECTION_A)
+    yield "set interval 01 0001 1 "
+    yield behind("interval-and-a-space", SECTION_A)
+    yield "set interval 1 1 2"
+    yield "lists - - -"
+    yield walk("interval-of-other-lists", SECTION_A)
+    yield walk("9-behind-8", SECTION_A, fields("0", "4"))
+    yield bare("9-behind-slow-8", "49", item(STATES, 1, 1, "5"))
+    yield bare("9-behind-slow-1", "49", without(STATES, 5))
+    yield case("9-behind-1", "I")
+    yield from (f"set{words}" for words in ("", " ", " plain ", "  plain", " Plain", " plain 1", " interval", " interval 1", " interval 1 1", " interval  1 1 1"))
+    yield from (f"set interval {words}" for words in ("1 1 1 1", "1 1 1  ", "1 - 1", "1 1 +1", "4294967296 1 1", "1 4294967297 1", "1 1 99999999999999999999"))
+    yield from ("set intervals 1 1 1", "set every 1 1 1", "set 1 1 1")
+    yield walk("set-in-a-label", SECTION_A)
+    yield "set plain"
+    yield walk("plain-again", SECTION_A)
+
+
 def example(name):
     return (EXAMPLES / f"{name}.log").read_bytes()
 
@@ -461,6 +484,7 @@ SECTIONS = (
     ("Smallest inputs on which the Rust answers otherwise (docs/DIFFERENCES.md)", differences),
     ("What the Rust was asked (vectors/oracle-walks.txt)", asked_of_the_rust),
     ("Lists and header numbers of more than one log", common_lists),
+    ("Settings of more than one log", settings),
     ("How cases are written", small_matters),
     ("Lines that are no case", no_cases),
 )

@@ -139,9 +139,9 @@ def columns(rows, count):
     return list(zip(*rows)) or [()] * count
 
 
-def defined(log, numbers=lists.NO_NUMBERS):
-    """The definition that a log's lists make with header numbers, and which fields are signed by the kind of frame."""
-    main, slow = lists.define(log, numbers)
+def defined(log, numbers=lists.NO_NUMBERS, settings=lists.PLAIN):
+    """The definition that a log's lists make with header numbers and settings, and which fields are signed by the kind of frame."""
+    main, slow = lists.define(log, numbers, settings)
     names, p, q, e, f, signs = columns(main[2:], 6)
     _, slow_p, slow_e, slow_signs = columns(slow, 4)
     encodings, predictors = ([list(map(int, codes)) for codes in kinds] for kinds in ((e, f, slow_e), (p, q, slow_p)))
@@ -185,12 +185,12 @@ def too_long(log):
     return len(log) - len(section) > HEADER_MOST or len(section) > SECTION_MOST
 
 
-def printed(log, numbers=lists.NO_NUMBERS):
-    """The lines that the program prints of a log; only replay has header numbers."""
+def printed(log, numbers=lists.NO_NUMBERS, settings=lists.PLAIN):
+    """The lines that the program prints of a log; only replay has header numbers and settings."""
     if too_long(log):
         return ["too long"]
     try:
-        definition, signed = defined(log, numbers)
+        definition, signed = defined(log, numbers, settings)
     except lists.Refused as refused:
         return [str(refused)]
     return shown(*walk(definition, section_of(log)), signed)
@@ -203,25 +203,38 @@ INPUT_MOST = 2**20
 LOG_MOST = 8192
 
 LISTS = re.compile("lists (-|[0-9]+) (-|[0-9]+) (-|[0-9]+)(?: (.*))?", re.DOTALL)
+SET = re.compile("set (?:plain|interval ([0-9]+) ([0-9]+) ([0-9]+) ?)")
 CASE = re.compile("([^ ]+)(?: (.*))?", re.DOTALL)
 
 
 class Common(NamedTuple):
-    """What a line `lists` says of the logs behind it: their header numbers, and the bytes that they begin with."""
+    """What a line `lists` says of the logs behind it: their header numbers, and the bytes that they begin with; and a line `set`, their settings."""
 
     numbers: tuple
     start: bytes
+    settings: lists.Settings
 
 
-NOTHING = Common(lists.NO_NUMBERS, b"")
+NOTHING = Common(lists.NO_NUMBERS, b"", lists.PLAIN)
 
 
-def common_words(text):
-    """What a line `lists` says, or None where it is not written so."""
+def common_words(text, common):
+    """What is common to logs behind a line `lists`, or None where it is not written so."""
     m = LISTS.fullmatch(text)
     numbers = m and lists.header_numbers(m.group(1, 2, 3))
     start = m and lists.unescaped(m[4] or "", LOG_MOST)
-    return None if None in (numbers, start) else Common(numbers, start)
+    return None if None in (numbers, start) else common._replace(numbers=numbers, start=start)
+
+
+def set_words(text, common):
+    """The same for a line `set`."""
+    m = SET.fullmatch(text)
+    settings = m and (lists.interval_settings(m.groups()) if m[1] else lists.PLAIN)
+    return settings and common._replace(settings=settings)
+
+
+# The words that are no labels.
+WORDS = {"lists": common_words, "set": set_words}
 
 
 def words(text, common=NOTHING):
@@ -237,10 +250,10 @@ def answers(texts):
     for text in texts:
         if text.startswith("#"):
             yield [text]
-        elif text.split(" ")[0] == "lists":
-            said = common_words(text)
+        elif text.split(" ")[0] in WORDS:
+            said = WORDS[text.split(" ")[0]](text, common)
             yield ["? " + text] if said is None else []
             common = said or common
         else:
             case = words(text, common)
-            yield ["? " + text] if case is None else [f"= {case[0]}", *printed(case[1], common.numbers)]
+            yield ["? " + text] if case is None else [f"= {case[0]}", *printed(case[1], common.numbers, common.settings)]

@@ -1,3 +1,5 @@
+pub mod Alone
+pub mod Lined
 pub mod Lines
 pub mod One
 pub mod Walking

@@ -4,9 +4,9 @@ ghost use mathlib.Core.Path.{_≡_};
 ghost use Prim.Native.Nat.{_+_, _≤_, min};
 ghost use lib.ListN.{length, drop};
 ghost use Rattle.items.specs.Text.{ascii};
-ghost use Rattle.header.specs.Header.{newer, valueOf, listsOf};
+ghost use Rattle.header.specs.Header.{newer, listsOf};
 ghost use Rattle.header.specs.Lines.{lines, bare, begins, headers, total};
-ghost use Rattle.header.specs.Owes.{ReadOwes};
+ghost use Rattle.header.specs.Owes.{ValueOwes, ReadOwes};
 use items::Lists;
 use items::MainLists;
 use items::SlowLists;
@@ -79,8 +79,8 @@ fn next_line(text: &[u8], end: usize) -> usize
 }
 
 // The value of the last header line with a prefix.
-fn value(text: &[u8], prefix: &[u8]) -> Stretch
-    ensures { λ r. ⌜ r ≡ valueOf (now (text .entry)) (now (prefix .entry)) ⌝ }
+pub fn value(text: &[u8], prefix: &[u8]) -> Stretch
+    ensures { λ r. ⌜ ValueOwes (now (text .entry)) (now (prefix .entry)) r ⌝ }
 {
     let mut found = Stretch::Absent;
     let mut at: usize = 0;

@@ -1,17 +1,18 @@
-// A case `define LABEL T B M N D LOG`: what a log's header says, and what its lists come to with three header numbers and an interval.
+// A case `define LABEL T B M I N D LOG`: what a log's header says, and what its lists come to with three header numbers and an interval.
 use crate::LONGEST;
 use crate::show;
 use definition::Verdict;
-use plan::FrameInterval;
 use plan::Numbers;
-use words::Number;
+use plan::Settings;
 use words::escapes;
+use words::interval::Interval;
 use words::three::Three;
+use words::three::behind_three;
 
-fn answer(log: &[u8], numbers: Numbers, interval: FrameInterval) {
+fn answer(log: &[u8], numbers: Numbers, settings: Settings) {
     let header = header::read(log);
     let lists = header.lists;
-    let defined = definition::define(log, lists, numbers, interval);
+    let defined = definition::define(log, lists, numbers, settings);
     let verdict = defined.verdict;
     show::text(b"section ");
     show::number(header.section);
@@ -23,7 +24,7 @@ fn answer(log: &[u8], numbers: Numbers, interval: FrameInterval) {
 }
 
 // Each of the next three answers whether the line is a case, and prints nothing where it is not.
-fn with_interval(label: &[u8], numbers: Numbers, interval: FrameInterval, log: &[u8]) -> bool {
+fn with_settings(label: &[u8], numbers: Numbers, settings: Settings, log: &[u8]) -> bool {
     let mut space = [0u8; LONGEST];
     let text = escapes::unescape(log, &mut space);
     if !text.is_right {
@@ -32,31 +33,16 @@ fn with_interval(label: &[u8], numbers: Numbers, interval: FrameInterval, log: &
     let n = text.length;
     show::text(label);
     show::text(b" = ");
-    answer(&space[..n], numbers, interval);
+    answer(&space[..n], numbers, settings);
     true
 }
 
 fn with_numbers(label: &[u8], numbers: Numbers, rest: &[u8]) -> bool {
-    let behind = words::behind(rest);
-    let first = words::decimal(words::first(rest));
-    let second = words::decimal(words::first(behind));
-    let Number::Is(n) = first else {
+    let read = words::interval::read(rest);
+    let Interval::Is(interval) = read else {
         return false;
     };
-    let Number::Is(d) = second else {
-        return false;
-    };
-    if 4294967295 < n {
-        return false;
-    }
-    if 4294967295 < d {
-        return false;
-    }
-    let interval = FrameInterval {
-        numerator: n as u32,
-        denominator: d as u32,
-    };
-    with_interval(label, numbers, interval, words::behind(behind))
+    with_settings(label, numbers, Settings { interval }, behind_three(rest))
 }
 
 pub fn case(rest: &[u8]) -> bool {
@@ -66,5 +52,5 @@ pub fn case(rest: &[u8]) -> bool {
     let Three::Are(numbers) = three else {
         return false;
     };
-    with_numbers(label, numbers, words::three::behind_three(behind_label))
+    with_numbers(label, numbers, behind_three(behind_label))
 }

@@ -1,9 +1,9 @@
 // A case `name LABEL KIND K MAIN SLOW LOG`: the name of a field of a log's definition, asked with two lists of names.
 use crate::LONGEST;
 use crate::show;
+use digits::Number;
 use items::Stretch;
 use names::Kind;
-use words::Number;
 use words::escapes;
 
 enum Word {
@@ -81,7 +81,7 @@ pub fn case(rest: &[u8]) -> bool {
     let behind_label = words::behind(rest);
     let behind_kind = words::behind(behind_label);
     let kind_word = kind_of(words::first(behind_label));
-    let number = words::decimal(words::first(behind_kind));
+    let number = digits::decimal(words::first(behind_kind));
     let Word::Is(kind) = kind_word else {
         return false;
     };

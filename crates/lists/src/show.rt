@@ -5,6 +5,7 @@ use items::Stretch;
 use libc::STDOUT_FILENO;
 use names::Kind;
 use plan::Definition;
+use plan::FrameInterval;
 use plan::HeaderNumber;
 use plan::Main;
 use plan::Numbers;
@@ -126,13 +127,25 @@ fn header_number(given: HeaderNumber) {
     }
 }
 
-fn numbers(given: Numbers) {
+pub fn numbers(given: Numbers) {
     let throttle = given.min_throttle;
     let battery = given.vbat_reference;
     let motor = given.min_motor;
     header_number(throttle);
     header_number(battery);
     header_number(motor);
+}
+
+// A number with a space before it.
+fn spaced(n: u32) {
+    text(b" ");
+    decimal(n as u64);
+}
+
+fn interval(v: FrameInterval) {
+    spaced(v.intra);
+    spaced(v.numerator);
+    spaced(v.denominator);
 }
 
 // The name of a field, or none; what is handed out for none is empty, and would show.
@@ -183,4 +196,7 @@ pub fn definition(d: Definition, log: &[u8], lists: Lists) {
     names_to(d, Kind::Main, main, slow, d.main.n);
     text(b" slow");
     names_to(d, Kind::Slow, main, slow, d.slow.n);
+    text(b" interval");
+    let settings = d.settings;
+    interval(settings.interval);
 }

@@ -4,12 +4,12 @@ use decode::negative_14_bit::negative_14_bit;
 use decode::tagged_variable::tagged_variable;
 use decode::variable::variable;
 use decode::variable::variable_signed;
+use digits::Number;
 use libc::STDIN_FILENO;
 use reader::Cursor;
 use reader::RestorePoint;
 use tagged::tagged_16::tagged_16;
 use tagged::tagged_32::tagged_32;
-use words::Number;
 
 mod show;
 
@@ -93,8 +93,8 @@ fn with_section(line: &[u8], which: Reader, group: usize, place: usize, digits: 
 
 fn with_reader(line: &[u8], which: Reader, rest: &[u8]) -> bool {
     let behind = words::behind(rest);
-    let group = words::decimal(words::first(rest));
-    let place = words::decimal(words::first(behind));
+    let group = digits::decimal(words::first(rest));
+    let place = digits::decimal(words::first(behind));
     let Number::Is(n) = group else {
         return false;
     };
@@ -131,7 +131,7 @@ fn lines(text: &[u8]) {
     let mut at = 0;
     while at < text.len() {
         let rest = &text[at..];
-        let n = words::until(rest, b'\n');
+        let n = digits::until(rest, b'\n');
         line(&rest[..n]);
         at += n;
         if at < text.len() {

@@ -1,12 +1,16 @@
--- A lent buffer with bytes put in front: how they come there one after the other, and that they lie within it.
+-- A buffer as it is made, and with bytes put in front: how they come there one after the other, and that they lie within it.
 use Prim.Native.Nat.{ℕ, _+_, _≤_}
 use mathlib.Core.List.{List}
 use mathlib.Core.Path.{_≡_, sym, _∙_}
 use native.Mathlib.Nat.{zero-add}
 use native.Mathlib.Omega.{arith}
-use lib.ListN.{length, drop, length-append}
+use lib.ListN.{length, drop, replicate, length-append, length-replicate}
 use lib.Seq.{sets, sets-eq, length-take-le}
 use Rattle.words.specs.Sections.{over, Counts}
+
+-- for any n, so that nothing counts to it
+pub zeros : (n : ℕ) → n ≡ length (replicate {A = ℕ} n 0)
+zeros n = sym (length-replicate n 0)
 
 pub sets-over : (bytes out : List ℕ) → length bytes ≤ length out → sets out 0 bytes ≡ over bytes out
 unfolding over

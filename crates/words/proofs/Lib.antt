@@ -1,5 +1,5 @@
 pub mod Buffers
-pub mod Digits
+pub mod Intervals
 pub mod Nibbles
 pub mod One
 pub mod Pairs

@@ -4,18 +4,15 @@ use mathlib.Core.Bool.{Bool}
 use mathlib.Core.List.{List}
 use mathlib.Core.Path.{_≡_, sym, ap, _∙_}
 use Rattle.words.specs.declared.Byte.{Byte}
-use Rattle.words.specs.declared.Number.{Number}
 use Rattle.words.specs.declared.escapes.Unescaped.{Unescaped}
+use Rattle.words.specs.declared.interval.Interval.{Interval}
 use Rattle.words.specs.declared.section.Section.{Section}
 use Rattle.words.specs.declared.three.Three.{Three}
-use Rattle.words.specs.Owes.{UntilOwes, FirstOwes, BehindOwes, IsHeadingOwes, DecimalOwes, HexOwes, BytesOwes, UnescapeOwes, WordOwes, NumbersOwes, BehindThreeOwes}
+use Rattle.words.specs.Owes.{FirstOwes, BehindOwes, IsHeadingOwes, HexOwes, BytesOwes, UnescapeOwes, WordOwes, NumbersOwes, IntervalOwes, BehindThreeOwes}
 
 -- a promise is one equation to a definition
 one-answer : {A : Type 0} {x r t : A} → r ≡ x → t ≡ x → r ≡ t
 one-answer p q = p ∙ sym q
-
-pub until-one : (s : List ℕ) (b : ℕ) {r t : ℕ} → UntilOwes s b r → UntilOwes s b t → r ≡ t
-until-one s b = one-answer
 
 pub first-one : (s : List ℕ) {r t : List ℕ} → FirstOwes s r → FirstOwes s t → r ≡ t
 first-one s = one-answer
@@ -26,14 +23,14 @@ behind-one s = one-answer
 pub is-heading-one : (s : List ℕ) {r t : Bool} → IsHeadingOwes s r → IsHeadingOwes s t → r ≡ t
 is-heading-one s = one-answer
 
-pub decimal-one : (s : List ℕ) {r t : Number} → DecimalOwes s r → DecimalOwes s t → r ≡ t
-decimal-one s = one-answer
-
 pub hex-one : (high low : ℕ) {r t : Byte} → HexOwes high low r → HexOwes high low t → r ≡ t
 hex-one high low = one-answer
 
 pub numbers-one : (s : List ℕ) {r t : Three} → NumbersOwes s r → NumbersOwes s t → r ≡ t
 numbers-one s = one-answer
+
+pub interval-one : (s : List ℕ) {r t : Interval} → IntervalOwes s r → IntervalOwes s t → r ≡ t
+interval-one s = one-answer
 
 pub behind-three-one : (s : List ℕ) {r t : List ℕ} → BehindThreeOwes s r → BehindThreeOwes s t → r ≡ t
 behind-three-one s = one-answer

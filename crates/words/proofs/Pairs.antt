@@ -11,7 +11,7 @@ use Rattle.words.specs.declared.section.Section.{Section}
 use Rattle.words.specs.Sections.{paired, pairs, isSection, over, noSection, sectionOf, Counts}
 use Rattle.words.specs.Words.{nibble}
 use Rattle.words.proofs.Buffers.{over-within, counts}
-use Rattle.words.proofs.Parting.{drop-step}
+use Rattle.digits.proofs.Parting.{drop-step}
 
 -- the two bytes at i, and what lies behind them
 pub drop-pair : (s : List ℕ) (i : ℕ) → 2 ≤ length s - i → drop i s ≡ getD s i 0 ∷ getD s (i + 1) 0 ∷ drop (i + 2) s

@@ -17,7 +17,7 @@ use Rattle.words.specs.declared.escapes.Unescaped.{Unescaped}
 use Rattle.words.specs.Escapes.{inFront, bytesOf, Begins, wordOf, counted, putOf}
 use Rattle.words.specs.Sections.{over, Counts}
 use Rattle.words.proofs.Buffers.{sets-over, over-within, counts}
-use Rattle.words.proofs.Parting.{rest, rest-all}
+use Rattle.digits.proofs.Parting.{rest, rest-all}
 
 -- what a text writes from i on, by the part at i
 part-at : (s : List ℕ) (i : ℕ) {byte : Byte} {width : ℕ} → Begins (rest i s) byte width → bytesOf (drop i s) ≡ inFront byte (bytesOf (drop (i + width) s))

@@ -7,12 +7,12 @@ use native.Mathlib.Omega.{arith}
 use lib.Dec.{eqb}
 use lib.ListN.{length, getD}
 use borrow.Author.Tests.{le-leb, lt-leb}
+use Rattle.digits.specs.Digits.{decimalOf}
 use Rattle.plan.specs.declared.HeaderNumber.the-variants as header
-use Rattle.words.specs.declared.Number.{Number}
-use Rattle.words.specs.declared.Number.the-variants as number
+use Rattle.digits.specs.declared.Number.{Number}
+use Rattle.digits.specs.declared.Number.the-variants as number
 use Rattle.words.specs.declared.three.Word.the-variants as word
 use Rattle.words.specs.Three.{isDash, small, givenOf}
-use Rattle.words.specs.Words.{decimalOf}
 
 pub dash-single : (s : List ℕ) → length s ≡ 1 → eqb (getD s 0 0) 45 ≡ isDash s
 unfolding isDash

@@ -1,4 +1,5 @@
 pub mod Escapes
+pub mod Interval
 pub mod Owes
 pub mod Sections
 pub mod Three

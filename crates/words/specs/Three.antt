@@ -3,14 +3,15 @@ use Prim.Native.Nat.{ℕ}
 use mathlib.Core.Bool.{Bool, false, cond}
 use mathlib.Core.List.{List, [], _∷_}
 use lib.Dec.{eqb, leb}
+use Rattle.digits.specs.Digits.{decimalOf}
 use Rattle.plan.specs.declared.HeaderNumber.the-variants as header
-use Rattle.words.specs.declared.Number.{Number}
-use Rattle.words.specs.declared.Number.the-variants as number
+use Rattle.digits.specs.declared.Number.{Number}
+use Rattle.digits.specs.declared.Number.the-variants as number
 use Rattle.words.specs.declared.three.Word.{Word}
 use Rattle.words.specs.declared.three.Word.the-variants as word
 use Rattle.words.specs.declared.three.Three.{Three}
 use Rattle.words.specs.declared.three.Three.the-variants.{Are, Wrong}
-use Rattle.words.specs.Words.{firstWord, otherWords, decimalOf}
+use Rattle.words.specs.Words.{firstWord, otherWords}
 
 unfoldable pub isDash : List ℕ → Bool
 isDash [] = false

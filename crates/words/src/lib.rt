@@ -1,38 +1,21 @@
-// A line of a case taken apart: its words, and the decimal numbers among them. The programs that run cases share it.
+// A line of a case taken apart into its words. The programs that run cases share it.
 // One space stands between two words, so behind two spaces the first word is empty.
-ghost use mathlib.Core.List.{[], _∷_};
 ghost use mathlib.Core.Path.{_≡_};
 ghost use Prim.Native.Nat.{_≤_};
-ghost use Rattle.words.specs.Owes.{UntilOwes, FirstOwes, BehindOwes, IsHeadingOwes, DecimalOwes, HexOwes};
-ghost use Rattle.words.specs.Words.{nibble, written};
+ghost use Rattle.words.specs.Owes.{FirstOwes, BehindOwes, IsHeadingOwes, HexOwes};
+ghost use Rattle.words.specs.Words.{nibble};
 
 pub mod escapes;
+pub mod interval;
 pub mod section;
 pub mod three;
+
+use digits::until;
 
 // A byte that two digits write.
 pub enum Byte {
     Is(u8),
     Wrong,
-}
-
-pub enum Number {
-    Is(usize),
-    Wrong,
-}
-
-// The place of the first b, or the length where there is none.
-pub fn until(s: &[u8], b: u8) -> usize
-    ensures { λ r. ⌜ UntilOwes (now (s .entry)) b r ⌝ }
-{
-    let mut i = 0;
-    while i < s.len() {
-        if s[i] == b {
-            return i;
-        }
-        i += 1;
-    }
-    i
 }
 
 pub fn first(s: &[u8]) -> &[u8]
@@ -54,42 +37,6 @@ pub fn is_heading(s: &[u8]) -> bool
     ensures { λ r. ⌜ IsHeadingOwes (now (s .entry)) r ⌝ }
 {
     if 0 < s.len() { s[0] == b'#' } else { false }
-}
-
-// One more digit behind a number: up to the largest place there is.
-fn longer(n: usize, b: u8) -> Number
-    ensures { λ r. ⌜ r ≡ written n (b ∷ []) ⌝ }
-{
-    if b < b'0' {
-        return Number::Wrong;
-    }
-    if b'9' < b {
-        return Number::Wrong;
-    }
-    let digit = (b - b'0') as usize;
-    if (usize::MAX - digit) / 10 < n {
-        return Number::Wrong;
-    }
-    Number::Is(10 * n + digit)
-}
-
-pub fn decimal(s: &[u8]) -> Number
-    ensures { λ r. ⌜ DecimalOwes (now (s .entry)) r ⌝ }
-{
-    if s.len() == 0 {
-        return Number::Wrong;
-    }
-    let mut n = 0;
-    let mut i = 0;
-    while i < s.len() {
-        let more = longer(n, s[i]);
-        let Number::Is(m) = more else {
-            return Number::Wrong;
-        };
-        n = m;
-        i += 1;
-    }
-    Number::Is(n)
 }
 
 // 16 stands for what is no digit.

@@ -2,10 +2,10 @@
 ghost use mathlib.Core.Path.{_≡_};
 ghost use Rattle.words.specs.Owes.{NumbersOwes, BehindThreeOwes};
 ghost use Rattle.words.specs.Three.{isDash, givenOf, allOf};
-use crate::Number;
 use crate::behind;
-use crate::decimal;
 use crate::first;
+use digits::Number;
+use digits::decimal;
 use plan::HeaderNumber;
 use plan::Numbers;
 

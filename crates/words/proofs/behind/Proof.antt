@@ -1,6 +1,7 @@
 -- `words::behind` meets its contract: a space stands behind the word, or nothing does. Assumes nothing.
 use borrow.Author.Needs.{needs}
-use Rattle.words.proofs.Parting.{until-within, words-behind, none-behind}
+use Rattle.digits.proofs.Parting.{until-within}
+use Rattle.words.proofs.Parting.{words-behind, none-behind}
 use Rattle.words.proofs.behind.Statement.{statement}
 use Rattle.words.proofs.behind.Tie as tie
 

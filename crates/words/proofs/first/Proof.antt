@@ -1,6 +1,7 @@
 -- `words::first` meets its contract: the word ends where `until` says. Assumes nothing.
 use borrow.Author.Needs.{needs}
-use Rattle.words.proofs.Parting.{until-taken, word-first}
+use Rattle.digits.proofs.Parting.{until-taken}
+use Rattle.words.proofs.Parting.{word-first}
 use Rattle.words.proofs.first.Statement.{statement}
 use Rattle.words.proofs.first.Tie as tie
 
