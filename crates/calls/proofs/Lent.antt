@@ -34,7 +34,7 @@ pub record Lies (d : Definition) (s last₀ older₀ : List ℕ) (hs : Heads) (t
 
 -- a look that says something is the call
 pub lies-last : (d : Definition) (s : List ℕ) {last₀ older₀ : List ℕ} {hs : Heads} {t₀ : Tally} {last older : List ℕ} {t : Tally} {known : Bool}
-    → Lies d s last₀ older₀ hs t₀ last older t known → {l : Look} → SightOwes d s (t .place) known l → {v : Vain} → v ≡ vain (l .seen) → v ≡ Says
+    → Lies d s last₀ older₀ hs t₀ last older t known → {l : Look} → SightOwes d s (t .place) l → {v : Vain} → v ≡ vain (l .seen) → v ≡ Says
     → (looked : Looked) {after : List ℕ} → told looked after ≡ handed (settled d l (length s) (walkOf t (historyOf hs last older))) (replicate 62 0)
     → Steps d (walkOf t₀ (historyOf hs last₀ older₀)) s (replicate 62 0) (record { looked = looked; barren = known }) after
 lies-last d s {hs = hs} {t = t} li {l} saw is speaks looked tells =

@@ -18,7 +18,7 @@ use Rattle.extent.specs.declared.Seen.the-variants.{Nothing, Passed, Rejected, 
 use Rattle.extent.specs.Extent.{look}
 use Rattle.extent.specs.Owes.{SightOwes}
 use Rattle.extent.specs.Sight.{Barren}
-use Rattle.extent.proofs.Flag.{sight-look, passed-barren, rejected-barren, barren-stays}
+use Rattle.extent.proofs.Flag.{passed-barren, rejected-barren, barren-stays}
 use Rattle.extent.proofs.Reach.{look-reaches}
 use Rattle.section.specs.declared.Ending.the-variants.{Going}
 use Rattle.section.specs.declared.Looked.{Looked}
@@ -116,17 +116,14 @@ pub stands-rooms : (d : Definition) (s : List ℕ) {out₀ : List ℕ} {h : Hist
 stands-rooms d s st rooms = rw (st .kept) rooms
 
 module _ (d : Definition) (s : List ℕ) {out₀ : List ℕ} {h : History} {t₀ : Tally} {out : List ℕ} {t : Tally} {known : Bool}
-    (st : Stands d s out₀ h t₀ out t known) {l : Look} (saw : SightOwes d s (t .place) known l) where
-  here : l ≡ look (shape d) (drop (t .place) s)
-  here = saw ∙ sight-look known (shape d) s (t .place) (st .right)
-
+    (st : Stands d s out₀ h t₀ out t known) {l : Look} (saw : SightOwes d s (t .place) l) where
   pub stands-fits : Fits t (l .seen) (length s)
   stands-fits =
       admitted-fits d (length s) (walkOf t h) (st .so) (l .seen)
-      (rw here (look-reaches (shape d) s (t .place) (admitted-place d (length s) (walkOf t h) (st .so)))) (st .four)
+      (rw saw (look-reaches (shape d) s (t .place) (admitted-place d (length s) (walkOf t h) (st .so)))) (st .four)
 
   ticks : tick d s (walkOf t h) ≡ settled d l (length s) (walkOf t h)
-  ticks = tick-going d s (walkOf t h) (st .going) ∙ ap (λ x. settled d x (length s) (walkOf t h)) (sym here)
+  ticks = tick-going d s (walkOf t h) (st .going) ∙ ap (λ x. settled d x (length s) (walkOf t h)) (sym saw)
 
   module _ {v : Vain} (is : v ≡ vain (l .seen)) where
     module _ {b : Bool} (searched : v ≡ Searched b) {t' : Tally} (next : t' ≡ tallyAfter (l .seen) (length s) t) where
@@ -157,7 +154,7 @@ module _ (d : Definition) (s : List ℕ) {out₀ : List ℕ} {h : History} {t₀
             four = ap (λ (x : Walk). length (x .tally .counts)) (sym on) ∙ tick-counts d s (walkOf t h) ∙ st .four;
             going = ap (λ x. x .ending) next ∙ does .2;
             same = ap (called d s) (sym on) ∙ sym (call-vain d s (walkOf t h) quiet) ∙ st .same;
-            right = rw place-next (vain-barren d s (t .place) (l .seen) (ap (λ x. x .seen) (sym here)) in-vain);
+            right = rw place-next (vain-barren d s (t .place) (l .seen) (ap (λ x. x .seen) (sym saw)) in-vain);
           }
 
       pub less-left : length s - t' .place < length s - t .place

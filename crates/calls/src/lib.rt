@@ -51,8 +51,10 @@ fn looks(d: Definition, w: Walk, s: &[u8], barren: bool, out: &mut [u32]) -> Cal
     let history = w.history;
     let mut tally = w.tally;
     let mut known = barren;
+    let mut fields = [0u32; 62];
     loop {
-        let l = extent::sight(d, s, tally.place, known);
+        let g = extent::sight_into(d, s, tally.place, known, &mut fields);
+        let l = g.with(fields);
         let seen = l.seen;
         let verdict = is_vain(seen);
         match verdict {

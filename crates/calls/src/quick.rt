@@ -1,5 +1,5 @@
 // One call of a walk whose values stand in lent rooms: the faster form of `step`, for whole walks.
-// The fields go to the rooms `values`, 0 behind the last; `raws` are for the raw numbers of a trial. What either holds before does not matter.
+// The fields go to the rooms `values`, 0 behind the last; what these hold before does not matter.
 ghost use mathlib.Core.Bool.{true};
 ghost use mathlib.Core.Path.{_≡_};
 ghost use lib.ListN.{length, replicate};
@@ -33,7 +33,6 @@ fn looks_in(
     barren: bool,
     last: &mut [u32; 62],
     older: &mut [u32; 62],
-    raws: &mut [u32; 62],
     values: &mut [u32; 62],
 ) -> Stepped
     requires { ⌜ (admitted d (length (now s)) (walkOf w (now last) (now older)) ≡ true) × Rooms d 62 ⌝ }
@@ -43,8 +42,9 @@ fn looks_in(
     let heads = w.heads;
     let mut tally = w.tally;
     let mut known = barren;
+    let mut raws = [0u32; 62];
     loop {
-        let g = extent::sight_into(d, s, tally.place, known, raws);
+        let g = extent::sight_into(d, s, tally.place, known, &mut raws);
         let seen = g.seen;
         let verdict = is_vain(seen);
         match verdict {
@@ -55,7 +55,7 @@ fn looks_in(
             }
             Vain::Says => {
                 let now = Light { tally, heads };
-                let settled = settle_in(d, now, g, raws, s.len(), last, older, values);
+                let settled = settle_in(d, now, g, &raws, s.len(), last, older, values);
                 let answer = settled.answer;
                 let walk = settled.walk;
                 return Stepped {
@@ -89,7 +89,6 @@ pub fn step_in(
     barren: bool,
     last: &mut [u32; 62],
     older: &mut [u32; 62],
-    raws: &mut [u32; 62],
     values: &mut [u32; 62],
 ) -> Stepped
     requires { ⌜ (admitted d (length (now s)) (walkOf w (now last) (now older)) ≡ true) × Rooms d 62 ⌝ }
@@ -99,7 +98,7 @@ pub fn step_in(
     let tally = w.tally;
     let ending = tally.ending;
     match ending {
-        Ending::Going => looks_in(d, w, s, barren, last, older, raws, values),
+        Ending::Going => looks_in(d, w, s, barren, last, older, values),
         Ending::Done => over_in(w, barren, values),
         Ending::Out => over_in(w, barren, values),
         Ending::Cut(_, _) => over_in(w, barren, values),

@@ -1,8 +1,9 @@
 -- The first byte at a place, as the code is answered it: whether a frame may end there, and what it begins.
-use Prim.Native.Nat.{ℕ}
+use Prim.Native.Nat.{ℕ, _+_}
 use mathlib.Core.Bool.{Bool, true, false}
 use mathlib.Core.List.{List, [], _∷_}
 use mathlib.Core.Path.{_≡_, refl, sym, ap, _∙_}
+use native.Mathlib.Omega.{arith}
 use lib.ListN.{drop}
 use lib.Seq.{drop-drop}
 use Rattle.plan.specs.Plan.{Shape}
@@ -16,25 +17,16 @@ use Rattle.reader.specs.declared.RestorePoint.{RestorePoint}
 use Rattle.reader.specs.declared.Skip.{Skip}
 use Rattle.reader.specs.Got.{one}
 use Rattle.reader.specs.Place.{rest, on, byteAt, pointOf, placeOf}
-use Rattle.reader.specs.Search.{letterOf, seek, skipOf}
+use Rattle.reader.specs.Search.{letterOf, seek}
 use Rattle.extent.specs.declared.Look.{Look}
 use Rattle.extent.specs.declared.Seen.the-variants.{Nothing, Passed}
-use Rattle.extent.specs.Extent.{isKind, closed, bare, trial, judged, begun, lookBy, seekIf}
-
--- ## A search that may be saved
-
-module _ {b : Bool} (t : List ℕ) where
-  pub search-saved : b ≡ true → _≡_ {A = Skip} (record { by = 0; barren = true }) (seekIf b t)
-  unfolding seekIf skipOf
-  search-saved h = rw h
-
-  pub search-made : {x : Skip} → b ≡ false → x ≡ seek t → x ≡ seekIf b t
-  unfolding seekIf
-  search-made h y = rw h y
+use Rattle.extent.specs.Extent.{isKind, closed, bare, trial, judged, begun, look}
+use Rattle.extent.specs.Sight.{Barren}
+use Rattle.extent.proofs.Flag.{barren-stays}
 
 -- a search from a point is one from the place that the point was made of
-pub from-point : (f : List ℕ → Skip) (s : List ℕ) (c : Cursor) {p : RestorePoint} → p ≡ pointOf c → f (rest (placeOf p) s) ≡ f (rest c s)
-from-point f s c e = ap (λ (q : RestorePoint). f (rest (placeOf q) s)) e
+pub from-point : (s : List ℕ) (c : Cursor) {p : RestorePoint} → p ≡ pointOf c → seek (rest (placeOf p) s) ≡ seek (rest c s)
+from-point s c e = ap (λ (q : RestorePoint). seek (rest (placeOf q) s)) e
 
 -- ## The byte there
 
@@ -54,6 +46,12 @@ module _ (s : List ℕ) (c : Cursor) {r : Byte} (e : r ≡ byteAt c (rest c s)) 
   first {b} h =
       let at = here c (rest c s) e h in
       at .0 ∙ ap (λ t. b ∷ t) (drop-drop 1 (c .at) s ∙ ap (λ (p : Cursor). rest p s) (at .1))
+
+  -- a flag that is right there is right behind it
+  pub barren-behind : {b : ℕ} {q : Cursor} {f : Bool} → r ≡ Here b q → Barren f s (c .at) → Barren f s (q .at)
+  barren-behind {q = q} {f} h w =
+      let z : c .at + 1 ≡ q .at = ap (λ (p : Cursor). p .at) (here c (rest c s) e h .1) in
+      barren-stays f s (c .at) (q .at) (omega arith) w
 
   -- ## May a frame end there?
 
@@ -76,23 +74,23 @@ module _ (s : List ℕ) (c : Cursor) {r : Byte} (e : r ≡ byteAt c (rest c s)) 
 
   -- ## What stands there
 
-  module _ (f : List ℕ → Skip) (d : Shape) where
+  module _ (d : Shape) where
     module _ {b : ℕ} {q : Cursor} {l : Letter} (h : r ≡ Here b q) (letter : l ≡ letterOf b) where
-      look-by : lookBy f d (rest c s) ≡ begun f d l (rest q s)
-      unfolding lookBy
-      look-by = ap (lookBy f d) (first h) ∙ ap (λ m. begun f d m (rest q s)) (sym letter)
+      look-by : look d (rest c s) ≡ begun d l (rest q s)
+      unfolding look
+      look-by = ap (look d) (first h) ∙ ap (λ m. begun d m (rest q s)) (sym letter)
 
       -- a trial
-      pub sight-kind : {k : Kind} {x : Look} → l ≡ Is k → x ≡ judged f k (rest q s) (trial d k (rest q s)) → x ≡ lookBy f d (rest c s)
+      pub sight-kind : {k : Kind} {x : Look} → l ≡ Is k → x ≡ judged k (rest q s) (trial d k (rest q s)) → x ≡ look d (rest c s)
       unfolding begun
-      sight-kind k y = y ∙ sym (look-by ∙ ap (λ m. begun f d m (rest q s)) k)
+      sight-kind k y = y ∙ sym (look-by ∙ ap (λ m. begun d m (rest q s)) k)
 
       -- a byte that starts no frame
-      pub sight-other : {p : RestorePoint} {k : Skip} {x : Look} → l ≡ Other → p ≡ pointOf q → k ≡ f (rest (placeOf p) s) → x ≡ bare (Passed k) → x ≡ lookBy f d (rest c s)
+      pub sight-other : {p : RestorePoint} {k : Skip} {x : Look} → l ≡ Other → p ≡ pointOf q → k ≡ seek (rest (placeOf p) s) → x ≡ bare (Passed k) → x ≡ look d (rest c s)
       unfolding begun
       sight-other o point skip y =
-          y ∙ ap (λ j. bare (Passed j)) (skip ∙ from-point f s q point) ∙ sym (look-by ∙ ap (λ m. begun f d m (rest q s)) o)
+          y ∙ ap (λ j. bare (Passed j)) (skip ∙ from-point s q point) ∙ sym (look-by ∙ ap (λ m. begun d m (rest q s)) o)
 
-    pub sight-nothing : {x : Look} → r ≡ End → x ≡ bare Nothing → x ≡ lookBy f d (rest c s)
-    unfolding lookBy
-    sight-nothing h y = y ∙ sym (ap (lookBy f d) (none-there c (rest c s) e h))
+    pub sight-nothing : {x : Look} → r ≡ End → x ≡ bare Nothing → x ≡ look d (rest c s)
+    unfolding look
+    sight-nothing h y = y ∙ sym (ap (look d) (none-there c (rest c s) e h))

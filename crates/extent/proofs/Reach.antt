@@ -16,7 +16,7 @@ use Rattle.reader.proofs.Found.{seek-within}
 use Rattle.reader.proofs.Lawful.{Within}
 use Rattle.extent.specs.declared.Seen.{Seen}
 use Rattle.extent.specs.declared.Seen.the-variants.{Nothing, Rejected, Accepted}
-use Rattle.extent.specs.Extent.{Content, closed, bare, trial, judged, begun, lookBy, look, span}
+use Rattle.extent.specs.Extent.{Content, closed, bare, trial, judged, begun, look, span}
 use Rattle.extent.proofs.Lawful.{trial-lawful}
 
 -- over a first byte at least, and over no more than n behind it
@@ -29,20 +29,20 @@ unfolding span
 closed-reaches true k c x n le = omega arith
 closed-reaches false k c x n le = omega (arith, seek-within c)
 
-judged-reaches : (k : Kind) (c : List ℕ) (g : Got Content) → Within 0 c g → Reaches (length c) (judged seek k c g .seen)
+judged-reaches : (k : Kind) (c : List ℕ) (g : Got Content) → Within 0 c g → Reaches (length c) (judged k c g .seen)
 unfolding judged span
 judged-reaches k c (got x u) w = closed-reaches (closed (drop (u .bytes) c)) k c x (u .bytes) (w .1)
 judged-reaches k c cut w = omega arith
 judged-reaches k c corrupt w = omega (arith, seek-within c)
 
-begun-reaches : (h : Shape) (c : List ℕ) (l : Letter) → Reaches (length c) (begun seek h l c .seen)
+begun-reaches : (h : Shape) (c : List ℕ) (l : Letter) → Reaches (length c) (begun h l c .seen)
 unfolding begun span
 begun-reaches h c (Is k) = judged-reaches k c (trial h k c) (trial-lawful h k .within c)
 begun-reaches h c Other = omega (arith, seek-within c)
 
 -- from the first of some bytes on
 look-within : (h : Shape) (c : List ℕ) → span (look h c .seen) ≤ length c
-unfolding look lookBy span
+unfolding look span
 look-within h [] = omega arith
 look-within h (b ∷ c) = let r = begun-reaches h c (letterOf b) in omega arith
 
@@ -54,9 +54,9 @@ module _ (h : Shape) (s : List ℕ) (p : ℕ) where
       omega arith
 
   pub look-nothing : length s ≤ p → look h (drop p s) ≡ bare Nothing
-  unfolding look lookBy
+  unfolding look
   look-nothing le = rw (drop-of-length-le s le)
 
   pub look-something : p < length s → 1 ≤ span (look h (drop p s) .seen)
-  unfolding look lookBy
+  unfolding look
   look-something lt = rw (drop-cons s p 0 lt) (begun-reaches h (drop (suc p) s) (letterOf (getD s p 0)) .0)

@@ -15,6 +15,7 @@ use Rattle.reader.specs.declared.Skip.{Skip}
 use Rattle.reader.specs.declared.Step.the-variants as step
 use Rattle.reader.specs.Got.{Spent, Got, got, cut, corrupt, over}
 use Rattle.reader.specs.Place.{rest, on, pointOf, placeOf}
+use Rattle.reader.specs.Search.{seek}
 use Rattle.raws.specs.declared.Front.{Front}
 use Rattle.raws.specs.declared.Raw.{Raw}
 use Rattle.raws.specs.declared.Reading as raws
@@ -102,32 +103,32 @@ module _ (c : Cursor) where
 
 -- ## The ways through a trial
 
-module _ (f : List ℕ → Skip) (k : Kind) (s : List ℕ) (c : Cursor) {g : Got Content} where
+module _ (k : Kind) (s : List ℕ) (c : Cursor) {g : Got Content} where
   module _ {x : Content} {q : Cursor} {b : Bool} (w : Gives c g x q) (ends : b ≡ closed (rest q s)) where
-    read-on : judged f k (rest c s) g
-        ≡ cond b (record { seen = Accepted (x .frame) (q .at - c .at); raw = x .raw }) (bare (Rejected k (f (rest c s))))
+    read-on : judged k (rest c s) g
+        ≡ cond b (record { seen = Accepted (x .frame) (q .at - c .at); raw = x .raw }) (bare (Rejected k (seek (rest c s))))
     unfolding judged
     read-on =
         let behind : drop (w .spent .bytes) (rest c s) ≡ rest q s = drop-drop (w .spent .bytes) (c .at) s ∙ ap (λ (p : Cursor). rest p s) (w .place) in
         let z : c .at + w .spent .bytes ≡ q .at = ap (λ (p : Cursor). p .at) (w .place) in
         let more : w .spent .bytes ≡ q .at - c .at = omega arith in
-        ap (judged f k (rest c s)) (w .is)
-        ∙ ap (λ t. cond t (record { seen = Accepted (x .frame) (w .spent .bytes); raw = x .raw }) (bare (Rejected k (f (rest c s))))) (ap closed behind ∙ sym ends)
-        ∙ ap (λ n. cond b (record { seen = Accepted (x .frame) n; raw = x .raw }) (bare (Rejected k (f (rest c s))))) more
+        ap (judged k (rest c s)) (w .is)
+        ∙ ap (λ t. cond t (record { seen = Accepted (x .frame) (w .spent .bytes); raw = x .raw }) (bare (Rejected k (seek (rest c s))))) (ap closed behind ∙ sym ends)
+        ∙ ap (λ n. cond b (record { seen = Accepted (x .frame) n; raw = x .raw }) (bare (Rejected k (seek (rest c s))))) more
 
-    pub accepted : {y : Look} → b ≡ true → y ≡ record { seen = Accepted (x .frame) (q .at - c .at); raw = x .raw } → y ≡ judged f k (rest c s) g
+    pub accepted : {y : Look} → b ≡ true → y ≡ record { seen = Accepted (x .frame) (q .at - c .at); raw = x .raw } → y ≡ judged k (rest c s) g
     accepted is e = e ∙ sym (read-on ∙ rw is)
 
-    pub not-closed : {p : RestorePoint} {y : Look} → b ≡ false → p ≡ pointOf c → y ≡ bare (Rejected k (f (rest (placeOf p) s))) → y ≡ judged f k (rest c s) g
-    not-closed open-end point e = e ∙ ap (λ j. bare (Rejected k j)) (from-point f s c point) ∙ sym (read-on ∙ rw open-end)
+    pub not-closed : {p : RestorePoint} {y : Look} → b ≡ false → p ≡ pointOf c → y ≡ bare (Rejected k (seek (rest (placeOf p) s))) → y ≡ judged k (rest c s) g
+    not-closed open-end point e = e ∙ ap (λ j. bare (Rejected k j)) (from-point s c point) ∙ sym (read-on ∙ rw open-end)
 
-  pub no-frame : {p : RestorePoint} {y : Look} → g ≡ corrupt → p ≡ pointOf c → y ≡ bare (Rejected k (f (rest (placeOf p) s))) → y ≡ judged f k (rest c s) g
+  pub no-frame : {p : RestorePoint} {y : Look} → g ≡ corrupt → p ≡ pointOf c → y ≡ bare (Rejected k (seek (rest (placeOf p) s))) → y ≡ judged k (rest c s) g
   unfolding judged
-  no-frame h point e = e ∙ ap (λ j. bare (Rejected k j)) (from-point f s c point) ∙ sym (ap (judged f k (rest c s)) h)
+  no-frame h point e = e ∙ ap (λ j. bare (Rejected k j)) (from-point s c point) ∙ sym (ap (judged k (rest c s)) h)
 
-pub cut-off : (f : List ℕ → Skip) (k : Kind) (t : List ℕ) {g : Got Content} {y : Look} → g ≡ cut → y ≡ bare (Cutoff k) → y ≡ judged f k t g
+pub cut-off : (k : Kind) (t : List ℕ) {g : Got Content} {y : Look} → g ≡ cut → y ≡ bare (Cutoff k) → y ≡ judged k t g
 unfolding judged
-cut-off f k t h e = e ∙ sym (ap (judged f k t) h)
+cut-off k t h e = e ∙ sym (ap (judged k t) h)
 
 -- a rejected trial, by what its search came to
 pub rejected-by : (k : Kind) {j i : Skip} {y : Look} → y ≡ bare (Rejected k j) → j ≡ i → y ≡ bare (Rejected k i)
@@ -136,8 +137,8 @@ rejected-by k e made = e ∙ ap (λ m. bare (Rejected k m)) made
 -- ## By the kind
 
 -- what is known of a kind, for a value that is this kind
-pub of-kind : (f : List ℕ → Skip) (h : Shape) (t : List ℕ) (j : Kind) {k : Kind} {y : Look} → k ≡ j → y ≡ judged f j t (trial h j t) → y ≡ judged f k t (trial h k t)
-of-kind f h t j same e = e ∙ ap (λ i. judged f i t (trial h i t)) (sym same)
+pub of-kind : (h : Shape) (t : List ℕ) (j : Kind) {k : Kind} {y : Look} → k ≡ j → y ≡ judged j t (trial h j t) → y ≡ judged k t (trial h k t)
+of-kind h t j same e = e ∙ ap (λ i. judged i t (trial h i t)) (sym same)
 
 -- a reading behind a kind byte goes on no further back
 pub goes-on : (c : Cursor) (g : Got Raw) {x : Front} {vs : List ℕ} → rooms.beside x vs ≡ rawAt c g → GoesOn c x

@@ -3,7 +3,6 @@
 use Prim.Native.Nat.{ℕ, _+_}
 use mathlib.Core.Bool.{Bool, true, false, cond}
 use mathlib.Core.List.{List, [], _∷_}
-use mathlib.Core.Option.{none}
 use lib.ListN.{drop}
 use Rattle.plan.specs.Plan.{Shape}
 use Rattle.raws.specs.declared.Raw.{Raw}
@@ -12,9 +11,8 @@ use Rattle.reader.specs.declared.Kind.{Kind}
 use Rattle.reader.specs.declared.Kind.the-variants.{Event, Intra, Inter, Gps, Home, Slow}
 use Rattle.reader.specs.declared.Letter.{Letter}
 use Rattle.reader.specs.declared.Letter.the-variants.{Is, Other}
-use Rattle.reader.specs.declared.Skip.{Skip}
 use Rattle.reader.specs.Got.{Got, got, cut, corrupt, Reader, over, fault}
-use Rattle.reader.specs.Search.{letterOf, skipOf, seek}
+use Rattle.reader.specs.Search.{letterOf, seek}
 use Rattle.event.specs.declared.Event as event
 use Rattle.event.specs.Events.{eventRead}
 use Rattle.extent.specs.declared.Found.{Found}
@@ -61,30 +59,20 @@ abbrev pub bare : Seen → Look
 bare x = record { seen = x; raw = noRaw }
 
 -- what becomes of a trial of the bytes `c` behind a kind byte; where it is rejected the search starts there, behind its first byte
-unfoldable pub judged : (search : List ℕ → Skip) → Kind → List ℕ → Got Content → Look
-judged search k c (got x u) =
-    cond (closed (drop (u .bytes) c)) (record { seen = Accepted (x .frame) (u .bytes); raw = x .raw }) (bare (Rejected k (search c)))
-judged search k c cut = bare (Cutoff k)
-judged search k c corrupt = bare (Rejected k (search c))
+unfoldable pub judged : Kind → List ℕ → Got Content → Look
+judged k c (got x u) = cond (closed (drop (u .bytes) c)) (record { seen = Accepted (x .frame) (u .bytes); raw = x .raw }) (bare (Rejected k (seek c)))
+judged k c cut = bare (Cutoff k)
+judged k c corrupt = bare (Rejected k (seek c))
 
 -- a byte outside the six starts a search behind it, a byte inside a trial
-unfoldable pub begun : (search : List ℕ → Skip) → Shape → Letter → List ℕ → Look
-begun search h Other c = bare (Passed (search c))
-begun search h (Is k) c = judged search k c (trial h k c)
-
--- what stands at the first of some bytes, by a way to search
-unfoldable pub lookBy : (search : List ℕ → Skip) → Shape → List ℕ → Look
-lookBy search h [] = bare Nothing
-lookBy search h (b ∷ c) = begun search h (letterOf b) c
+unfoldable pub begun : Shape → Letter → List ℕ → Look
+begun h Other c = bare (Passed (seek c))
+begun h (Is k) c = judged k c (trial h k c)
 
 -- WHAT STANDS AT A PLACE, of which these are the bytes from there on
 unfoldable pub look : Shape → List ℕ → Look
-look h c = lookBy seek h c
-
--- The same with a flag that says that nothing is left to search for: then no search is made. Where the flag is right it changes nothing (proofs/Flag.antt).
-unfoldable pub seekIf : (barren : Bool) → List ℕ → Skip
-seekIf true c = skipOf none
-seekIf false c = seek c
+look h [] = bare Nothing
+look h (b ∷ c) = begun h (letterOf b) c
 
 -- how many bytes it reaches over
 unfoldable pub span : Seen → ℕ

@@ -19,7 +19,7 @@ use Rattle.reader.specs.Search.{ahead}
 use Rattle.extent.specs.declared.Found.{Found}
 use Rattle.extent.specs.declared.Glance.{Glance}
 use Rattle.extent.specs.declared.Look.{Look}
-use Rattle.extent.specs.Extent.{content, judged, seekIf}
+use Rattle.extent.specs.Extent.{content, judged}
 
 -- the flag is right: from the place on nothing is left to search for
 pub record Barren (barren : Bool) (s : List ℕ) (place : ℕ) : Type 0 where
@@ -34,6 +34,5 @@ pub record GoesOn (from : Cursor) (x : Front) : Type 0 where
   pub forward : (q : Cursor) → x .step ≡ Next q → from .at ≤ q .at
 
 -- what becomes of a trial, whatever the reading behind its kind byte is a reading of
-abbrev pub Judges : Front → Kind → Found → List ℕ → Cursor → (barren : Bool) → (fields : List ℕ) → Glance → (after : List ℕ) → Type 0
-Judges x k f s from barren fields r after =
-    (g : Got Raw) → raws.beside x fields ≡ rawAt from g → beside r after ≡ judged (seekIf barren) k (rest from s) (over (content f) g)
+abbrev pub Judges : Front → Kind → Found → List ℕ → Cursor → (fields : List ℕ) → Glance → (after : List ℕ) → Type 0
+Judges x k f s from fields r after = (g : Got Raw) → raws.beside x fields ≡ rawAt from g → beside r after ≡ judged k (rest from s) (over (content f) g)

@@ -4,12 +4,13 @@ ghost use mathlib.Core.Path.{_≡_};
 ghost use Rattle.plan.specs.Plan.{shape};
 ghost use Rattle.reader.specs.Place.{rest, placeOf};
 ghost use Rattle.reader.specs.Got.{over};
+ghost use Rattle.reader.specs.Search.{seek};
 ghost use Rattle.reader.specs.declared.Kind.the-variants.{Event};
 ghost use Rattle.event.specs.Events.{eventRead};
 ghost use Rattle.extent.specs.declared.Seen.the-variants.{Rejected};
-ghost use Rattle.extent.specs.Extent.{closed, bare, told, judged, trial, seekIf};
-ghost use Rattle.extent.specs.Owes.{SightOwes};
-ghost use Rattle.extent.specs.Sight.{beside, GoesOn, Judges};
+ghost use Rattle.extent.specs.Extent.{closed, bare, told, judged, trial};
+ghost use Rattle.extent.specs.Owes.{SightOwes, WithOwes};
+ghost use Rattle.extent.specs.Sight.{Barren, beside, GoesOn, Judges};
 use plan::Definition;
 use raws::Front;
 use raws::Raw;
@@ -52,6 +53,21 @@ pub struct Glance {
     pub time: u32,
 }
 
+impl Glance {
+    // With the numbers: the whole look.
+    pub fn with(self, fields: [u32; 62]) -> Look
+        ensures { λ r. ⌜ WithOwes self fields r ⌝ }
+    {
+        let seen = self.seen;
+        let raw = Raw {
+            iteration: self.iteration,
+            time: self.time,
+            fields,
+        };
+        Look { seen, raw }
+    }
+}
+
 // Whether a frame may end here: before the end of data or one of the six bytes.
 fn is_closed(s: &[u8], at: Cursor) -> bool
     ensures { λ r. ⌜ r ≡ closed (rest at (now (s .entry))) ⌝ }
@@ -71,7 +87,8 @@ fn is_closed(s: &[u8], at: Cursor) -> bool
 
 // A search from a point on, which is not made where it is known to find nothing: no section is searched over and over.
 fn search(s: &[u8], from: RestorePoint, barren: bool) -> Skip
-    ensures { λ r. ⌜ r ≡ seekIf barren (rest (placeOf from) (now (s .entry))) ⌝ }
+    requires { ⌜ Barren barren (now s) (placeOf from .at) ⌝ }
+    ensures { λ r. ⌜ r ≡ seek (rest (placeOf from) (now (s .entry))) ⌝ }
 {
     if barren {
         return Skip {
@@ -96,7 +113,8 @@ fn without_numbers(seen: Seen, out: &mut [u32; 62]) -> Glance
 
 // The search starts behind the kind byte, wherever decoding stopped.
 fn rejected(kind: Kind, s: &[u8], from: RestorePoint, barren: bool, out: &mut [u32; 62]) -> Glance
-    ensures { λ r. ⌜ beside r (now (out .exit)) ≡ bare (Rejected kind (seekIf barren (rest (placeOf from) (now (s .entry))))) ⌝ }
+    requires { ⌜ Barren barren (now s) (placeOf from .at) ⌝ }
+    ensures { λ r. ⌜ beside r (now (out .exit)) ≡ bare (Rejected kind (seek (rest (placeOf from) (now (s .entry))))) ⌝ }
 {
     let skip = search(s, from, barren);
     without_numbers(Seen::Rejected(kind, skip), out)
@@ -112,8 +130,8 @@ fn judge(
     barren: bool,
     out: &mut [u32; 62],
 ) -> Glance
-    requires { ⌜ GoesOn from reading ⌝ }
-    ensures { λ r. ⌜ Judges reading kind frame (now (s .entry)) from barren (now (out .entry)) r (now (out .exit)) ⌝ }
+    requires { ⌜ GoesOn from reading × Barren barren (now s) (from .at) ⌝ }
+    ensures { λ r. ⌜ Judges reading kind frame (now (s .entry)) from (now (out .entry)) r (now (out .exit)) ⌝ }
 {
     let start = from.get_restore_point();
     let step = reading.step;
@@ -135,7 +153,8 @@ fn judge(
 }
 
 fn try_event(s: &[u8], from: Cursor, barren: bool, out: &mut [u32; 62]) -> Glance
-    ensures { λ r. ⌜ beside r (now (out .exit)) ≡ judged (seekIf barren) Event (rest from (now (s .entry))) (over told (eventRead (rest from (now (s .entry))))) ⌝ }
+    requires { ⌜ Barren barren (now s) (from .at) ⌝ }
+    ensures { λ r. ⌜ beside r (now (out .exit)) ≡ judged Event (rest from (now (s .entry))) (over told (eventRead (rest from (now (s .entry))))) ⌝ }
 {
     let start = from.get_restore_point();
     let reading = event::read(s, from);
@@ -161,7 +180,8 @@ fn try_kind(
     barren: bool,
     out: &mut [u32; 62],
 ) -> Glance
-    ensures { λ r. ⌜ beside r (now (out .exit)) ≡ judged (seekIf barren) kind (rest from (now (s .entry))) (trial (shape d) kind (rest from (now (s .entry)))) ⌝ }
+    requires { ⌜ Barren barren (now s) (from .at) ⌝ }
+    ensures { λ r. ⌜ beside r (now (out .exit)) ≡ judged kind (rest from (now (s .entry))) (trial (shape d) kind (rest from (now (s .entry)))) ⌝ }
 {
     let main = d.main;
     let slow = d.slow;
@@ -187,7 +207,7 @@ fn try_kind(
     }
 }
 
-// What stands at a place. The flag says that a search from there finds nothing.
+// What stands at a place. The flag, where it is set, says that a search from there finds nothing: then none is made.
 pub fn sight_into(
     d: Definition,
     s: &[u8],
@@ -195,7 +215,8 @@ pub fn sight_into(
     barren: bool,
     out: &mut [u32; 62],
 ) -> Glance
-    ensures { λ r. ⌜ SightOwes d (now (s .entry)) place barren (beside r (now (out .exit))) ⌝ }
+    requires { ⌜ Barren barren (now s) place ⌝ }
+    ensures { λ r. ⌜ SightOwes d (now (s .entry)) place (beside r (now (out .exit))) ⌝ }
 {
     let byte = reader::read_u8(s, Cursor { at: place });
     match byte {
@@ -213,17 +234,11 @@ pub fn sight_into(
     }
 }
 
-// The same with the numbers in the answer.
-pub fn sight(d: Definition, s: &[u8], place: usize, barren: bool) -> Look
-    ensures { λ r. ⌜ SightOwes d (now (s .entry)) place barren r ⌝ }
+// The same with the numbers in the answer, and no search saved.
+pub fn sight(d: Definition, s: &[u8], place: usize) -> Look
+    ensures { λ r. ⌜ SightOwes d (now (s .entry)) place r ⌝ }
 {
     let mut fields = [0u32; 62];
-    let glance = sight_into(d, s, place, barren, &mut fields);
-    let seen = glance.seen;
-    let raw = Raw {
-        iteration: glance.iteration,
-        time: glance.time,
-        fields,
-    };
-    Look { seen, raw }
+    let glance = sight_into(d, s, place, false, &mut fields);
+    glance.with(fields)
 }

@@ -1,4 +1,3 @@
-pub mod Copied
 pub mod Lent
 pub mod One
 pub mod Past

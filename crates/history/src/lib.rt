@@ -102,24 +102,12 @@ impl History {
     }
 }
 
-fn copy(from: &[u32; 62], to: &mut [u32; 62])
-    ensures { λ _. ⌜ now (to .exit) ≡ now (from .entry) ⌝ }
-{
-    let there = &from[..];
-    let here = &mut to[..];
-    let mut i = 0;
-    while i < here.len() {
-        here[i] = there[i];
-        i += 1;
-    }
-}
-
 // `pushed`, of the values.
 pub fn push_values(values: &[u32; 62], last: &mut [u32; 62], older: &mut [u32; 62])
     ensures { λ _. ⌜ PushValuesOwes (now (values .entry)) (now (last .entry)) (now (last .exit)) (now (older .exit)) ⌝ }
 {
-    copy(last, older);
-    copy(values, last);
+    *older = *last;
+    *last = *values;
 }
 
 // `pushed` behind an exclusive reference: the Rust's push, which also hands back a reference to the frame in the history.

@@ -12,7 +12,7 @@ use Rattle.plan.specs.declared.Definition.{Definition}
 use Rattle.plan.specs.Plan.{Shape, shape}
 use Rattle.reader.specs.declared.Letter.{Letter}
 use Rattle.reader.specs.declared.Letter.the-variants.{Is, Other}
-use Rattle.reader.specs.Search.{letterOf, seek}
+use Rattle.reader.specs.Search.{letterOf}
 use Rattle.raws.specs.declared.Raw.{Raw}
 use Rattle.history.specs.declared.History.{History}
 use Rattle.extent.specs.declared.Found.{Found}
@@ -20,7 +20,7 @@ use Rattle.extent.specs.declared.Found.the-variants.{Event, Intra, Inter, Slow}
 use Rattle.extent.specs.declared.Look.{Look}
 use Rattle.extent.specs.declared.Seen.{Seen}
 use Rattle.extent.specs.declared.Seen.the-variants.{Nothing, Passed, Rejected, Cutoff, Accepted}
-use Rattle.extent.specs.Extent.{isKind, begun, lookBy, look}
+use Rattle.extent.specs.Extent.{isKind, begun, look}
 use Rattle.section.specs.declared.Ending.the-variants.{Going}
 use Rattle.section.specs.declared.Walk.{Walk}
 use Rattle.section.specs.Walk.{Outcome, answerWith, answerAfter, settled, tick}
@@ -54,14 +54,14 @@ module _ (d : Definition) (x : Raw) (h : History) (q p : ℕ) where
   seen-place (Cutoff k) is = Option·some-injective q p is
   seen-place (Accepted f m) is = frame-place f is
 
-  begun-kind : (y : Shape) (l : Letter) (c : List ℕ) → triedAt (answerAfter d (begun seek y l c .seen) q x h) ≡ some p → isKind l ≡ true
+  begun-kind : (y : Shape) (l : Letter) (c : List ℕ) → triedAt (answerAfter d (begun y l c .seen) q x h) ≡ some p → isKind l ≡ true
   unfolding begun answerAfter triedAt isKind
   begun-kind y (Is k) c is = refl
   begun-kind y Other c is = absurd (Option·none-ne-some p is)
 
   -- and its first byte is one of the six
   look-kind : (y : Shape) (c : List ℕ) → triedAt (answerAfter d (look y c .seen) q x h) ≡ some p → isKind (letterOf (getD c 0 0)) ≡ true
-  unfolding look lookBy answerAfter triedAt
+  unfolding look answerAfter triedAt
   look-kind y [] is = absurd (Option·none-ne-some p is)
   look-kind y (b ∷ c) is = begun-kind y (letterOf b) c is
 

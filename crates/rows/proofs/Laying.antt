@@ -2,6 +2,7 @@
 use Prim.Native.Nat.{ℕ, suc, _+_, _-_, _*_, _/_, _<_, _≤_}
 use mathlib.Core.Bool.{Bool, true, false}
 use mathlib.Core.List.{List, [], _∷_, _++_, append-assoc, append-nil}
+use mathlib.Core.Option.{none}
 use mathlib.Core.Path.{_≡_, refl, sym, ap, ap₂, _∙_}
 use native.Mathlib.Nat.{suc-mul, mul-le-mul-right, div-mul-le-self, div-le-self}
 use native.Mathlib.Numerals.{add-one}
@@ -11,7 +12,7 @@ use lib.Seq.{sets}
 use Rattle.plan.specs.declared.Definition.{Definition}
 use Rattle.section.specs.declared.Check.the-variants as check
 use Rattle.section.specs.declared.Walk.{Walk}
-use Rattle.section.specs.Answers.{isOver}
+use Rattle.section.specs.Answers.{found, isOver}
 use Rattle.bytes.proofs.Stores.{then-put}
 use Rattle.calls.specs.declared.Called.{Called}
 use Rattle.calls.specs.Call.{called}
@@ -74,11 +75,11 @@ module _ (d : Definition) (s out₀ : List ℕ) (w₀ : Walk) where
     -- where no row follows
     ended : {v : Walk} (x : Rows) → rowsFrom d s (room - count) w ≡ x → x ≡ record { rows = []; walk = v }
         → laid (record { check = check.Pass; count = count; walk = v }) out ≡ all
-    unfolding laidOut
+    unfolding laidOut found
     ended {v} x e f =
         let is : rowsFrom d s (length out₀ / rowLength d) w₀ ≡ record { rows = l .done; walk = v } =
         l .rest ∙ ap (before (l .done)) (e ∙ f) ∙ ap (λ rs. record { rows = rs; walk = v }) (append-nil (l .done)) in
-        ap₂ (λ k o. record { check = check.Pass; count = k; walk = v; out = o }) (sym (l .many)) (l .wrote) ∙ ap (λ y. laidOut y out₀) (sym is)
+        ap₂ (λ k o. record { refused = none; count = k; walk = v; out = o }) (sym (l .many)) (l .wrote) ∙ ap (λ y. laidOut y out₀) (sym is)
 
     pub laying-full : room ≤ count → laid (record { check = check.Pass; count = count; walk = w }) out ≡ all
     unfolding rowsFrom

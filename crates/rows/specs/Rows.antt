@@ -3,6 +3,7 @@
 use Prim.Native.Nat.{ℕ, zero, suc, _+_, _*_, _/_, min}
 use mathlib.Core.Bool.{cond}
 use mathlib.Core.List.{List, [], _∷_, _++_}
+use mathlib.Core.Option.{none}
 use lib.Dec.{leb}
 use lib.ListN.{length, take}
 use lib.Seq.{sets}
@@ -14,7 +15,7 @@ use Rattle.section.specs.declared.Check.{Check}
 use Rattle.section.specs.declared.Check.the-variants as check
 use Rattle.section.specs.declared.Refusal.the-variants.{Unsound, TooShort}
 use Rattle.section.specs.declared.Walk.{Walk}
-use Rattle.section.specs.Answers.{isOver}
+use Rattle.section.specs.Answers.{Finding, found, isOver}
 use Rattle.section.specs.Refusals.{admitted, larger, needed}
 use Rattle.section.specs.Walk.{Outcome}
 use Rattle.calls.specs.Call.{called}
@@ -91,24 +92,24 @@ joined (r ∷ rs) = r ++ joined rs
 unfoldable pub checkedRows : Definition → Walk → (length room : ℕ) → Check
 checkedRows d w z room = cond (admitted d z w) (cond (leb (rowLength d) room) check.Pass (check.Refused (TooShort (rowLength d)))) (check.Refused Unsound)
 
--- all that is given: the verdict, how many rows, the walk, and the buffer's content
+-- all that is given: the refusal's number and place if there is one, how many rows, the walk, and the buffer's content
 pub record Told : Type 0 where
-  pub check : Check
+  pub refused : Finding
   pub count : ℕ
   pub walk : Walk
   pub out : List ℕ
 
 abbrev pub laid : Laid → (out : List ℕ) → Told
-laid r out = record { check = r .check; count = r .count; walk = r .walk; out = out }
+laid r out = record { refused = found (r .check); count = r .count; walk = r .walk; out = out }
 
 -- the rows stand in front of the buffer; the rest keeps its content
 unfoldable pub laidOut : Rows → (out : List ℕ) → Told
-laidOut x out = record { check = check.Pass; count = length (x .rows); walk = x .walk; out = sets out 0 (joined (x .rows)) }
+laidOut x out = record { refused = none; count = length (x .rows); walk = x .walk; out = sets out 0 (joined (x .rows)) }
 
 -- a refusal hands the walk back and writes nothing
 unfoldable pub checkedFirst : Check → Rows → Walk → (out : List ℕ) → Told
 checkedFirst check.Pass x w out = laidOut x out
-checkedFirst (check.Refused why) x w out = record { check = check.Refused why; count = 0; walk = w; out = out }
+checkedFirst (check.Refused why) x w out = record { refused = found (check.Refused why); count = 0; walk = w; out = out }
 
 -- as many rows as there is room for
 unfoldable pub nextRows : Definition → List ℕ → Walk → (out : List ℕ) → Told

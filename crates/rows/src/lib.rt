@@ -6,7 +6,7 @@ ghost use Prim.Native.Nat.{_+_, _*_, _/_, _≤_};
 ghost use lib.ListN.{length};
 ghost use lib.Seq.{sets};
 ghost use Rattle.section.specs.Refusals.{admitted};
-ghost use Rattle.rows.specs.Owes.{RowLengthOwes, NextOwes};
+ghost use Rattle.rows.specs.Owes.{RowLengthOwes, CheckOwes, NextOwes};
 ghost use Rattle.rows.specs.Rows.{width, rowLength, rowFor, rowBytes, rowsFrom, laid, laidOut};
 ghost use Rattle.rows.specs.Lent.{rowBeside};
 use calls::quick::step_in;
@@ -109,23 +109,13 @@ fn lay(d: Definition, w: Walk, s: &[u8], out: &mut [u8]) -> Laid
     let older_frame = history.older;
     let mut last = last_frame.values;
     let mut older = older_frame.values;
-    let mut raws = [0u32; 62];
     let mut values = [0u32; 62];
     let mut walk = w.light();
     let mut barren = false;
     let mut count: usize = 0;
     let mut at: usize = 0;
     while count < room {
-        let stepped = step_in(
-            d,
-            walk,
-            s,
-            barren,
-            &mut last,
-            &mut older,
-            &mut raws,
-            &mut values,
-        );
+        let stepped = step_in(d, walk, s, barren, &mut last, &mut older, &mut values);
         let answer = stepped.answer;
         let next = stepped.walk;
         if answer.is_over() {
@@ -149,24 +139,31 @@ fn lay(d: Definition, w: Walk, s: &[u8], out: &mut [u8]) -> Laid
     }
 }
 
+// Refusals 10 and 11 of a buffer of rows: it has to have room for one.
+pub fn check(d: Definition, w: Walk, length: usize, room: usize) -> Check
+    ensures { λ r. ⌜ CheckOwes d w length room r ⌝ }
+{
+    let size = row_length(d);
+    if !section::refusals::admits(d, w, length) {
+        return Check::Refused(Refusal::Unsound);
+    }
+    if room < size {
+        return Check::Refused(Refusal::TooShort(size));
+    }
+    Check::Pass
+}
+
 // The next rows of a walk, as many whole ones as the lent buffer has room for; or refusal 10, or 11 with the length of a row.
 pub fn next(d: Definition, w: Walk, s: &[u8], out: &mut [u8]) -> Laid
     ensures { λ r. ⌜ NextOwes d w (now (s .entry)) (now (out .entry)) r (now (out .exit)) ⌝ }
 {
-    if !section::refusals::admits(d, w, s.len()) {
-        return Laid {
-            check: Check::Refused(Refusal::Unsound),
+    let verdict = check(d, w, s.len(), out.len());
+    match verdict {
+        Check::Pass => lay(d, w, s, out),
+        Check::Refused(why) => Laid {
+            check: Check::Refused(why),
             count: 0,
             walk: w,
-        };
+        },
     }
-    let size = row_length(d);
-    if out.len() < size {
-        return Laid {
-            check: Check::Refused(Refusal::TooShort(size)),
-            count: 0,
-            walk: w,
-        };
-    }
-    lay(d, w, s, out)
 }

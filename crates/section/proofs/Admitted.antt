@@ -1,7 +1,7 @@
 -- What is known of an admitted walk and its definition, and what makes one.
 use Prim.Native.Nat.{ℕ, zero, suc, _+_, _≤_}
 use mathlib.Core.Bool.{Bool, true, false, cond, _&&_, and-eq-true-iff}
-use mathlib.Core.Path.{_≡_, refl}
+use mathlib.Core.Path.{_≡_, refl, sym, _∙_}
 use native.Mathlib.Omega.{arith}
 use lib.Dec.{eqb, ltb, leb}
 use lib.ListN.{length, getD, List·getD-eq-default}
@@ -13,14 +13,14 @@ use Rattle.plan.proofs.Sound.{main-fields, slow-fields, sound-main, sound-slow}
 use Rattle.history.specs.History as history
 use Rattle.extent.specs.declared.Seen.{Seen}
 use Rattle.extent.specs.Extent.{span}
-use Rattle.section.specs.declared.Check.the-variants.{Pass, Refused}
-use Rattle.section.specs.declared.Refusal.{Refusal}
-use Rattle.section.specs.declared.Refusal.the-variants.{Unsound, TooShort}
+use Rattle.section.specs.declared.Check.{Check}
+use Rattle.section.specs.declared.Check.the-variants.{Pass}
 use Rattle.section.specs.declared.Tally.{Tally}
 use Rattle.section.specs.declared.Walk.{Walk}
 use Rattle.section.specs.Fits.{Fits, Rooms}
+use Rattle.section.specs.Owes.{CheckOwes}
 use Rattle.section.specs.Refusals.{partsOf, tallySound, admitted, larger, needed, checked}
-use Rattle.section.proofs.Checks.{tally-is, admitted-is}
+use Rattle.section.proofs.Checks.{tally-is, admitted-is, passes, check-is}
 
 -- ## The five facts
 
@@ -118,13 +118,11 @@ module _ (d : Definition) where
 
 -- ## A check that passes
 
-passes : (a b : Bool) (p q : Refusal) → cond a (cond b Pass (Refused p)) (Refused q) ≡ Pass → (a ≡ true) × (b ≡ true)
-passes true true p q e = (refl, refl)
-passes true false p q e = let z : _≡_ {A = ℕ} 0 1 = cc in absurd (omega arith)
-passes false b p q e = let z : _≡_ {A = ℕ} 0 1 = cc in absurd (omega arith)
-
 pub checked-pass : (d : Definition) (w : Walk) (z room : ℕ) → checked d w z room ≡ Pass → (admitted d z w ≡ true) × Rooms d room
 unfolding checked
 checked-pass d w z room e =
-    let p = passes (admitted d z w) (leb (needed d) room) (TooShort (needed d)) Unsound e in
+    let p = passes (admitted d z w) (leb (needed d) room) (needed d) e in
     (p .0, sound-rooms d (admitted-sound d z w (p .0)) (leb-true (needed d) room (p .1)))
+
+pub check-passes : (d : Definition) (w : Walk) (z room : ℕ) {v : Check} → CheckOwes d w z room v → v ≡ Pass → (admitted d z w ≡ true) × Rooms d room
+check-passes d w z room owes pass = checked-pass d w z room (sym (check-is d w z room owes) ∙ pass)

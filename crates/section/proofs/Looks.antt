@@ -9,7 +9,6 @@ use Rattle.plan.specs.Plan.{shape}
 use Rattle.extent.specs.declared.Look.{Look}
 use Rattle.extent.specs.Extent.{look}
 use Rattle.extent.specs.Owes.{SightOwes}
-use Rattle.extent.proofs.Flag.{sight-look, barren-false}
 use Rattle.extent.proofs.Reach.{look-reaches}
 use Rattle.section.specs.declared.Check.{Check}
 use Rattle.section.specs.declared.Check.the-variants.{Pass, Refused}
@@ -27,18 +26,14 @@ use Rattle.section.proofs.Stays.{tick-going, over-lasts}
 -- ## A look from an admitted walk
 
 module _ (d : Definition) (s : List ℕ) (w : Walk) where
-  -- nothing is known of later searches, and so none is saved
-  module _ {l : Look} (sight : SightOwes d s (w .tally .place) false l) where
-    looks : l ≡ look (shape d) (drop (w .tally .place) s)
-    looks = sight ∙ sight-look false (shape d) s (w .tally .place) (barren-false s (w .tally .place))
-
+  module _ {l : Look} (sight : SightOwes d s (w .tally .place) l) where
     pub once-fits : admitted d (length s) w ≡ true → length (w .tally .counts) ≡ 4 → Fits (w .tally) (l .seen) (length s)
     once-fits h four =
-        rw looks (admitted-fits d (length s) w h (look (shape d) (drop (w .tally .place) s) .seen)
+        rw sight (admitted-fits d (length s) w h (look (shape d) (drop (w .tally .place) s) .seen)
         (look-reaches (shape d) s (w .tally .place) (admitted-place d (length s) w h)) four)
 
     pub once-going : (out : List ℕ) {r : Told} → w .tally .ending ≡ Going → r ≡ handed (settled d l (length s) w) out → r ≡ handed (tick d s w) out
-    once-going out going tells = tells ∙ ap (λ l. handed (settled d l (length s) w) out) looks ∙ sym (ap (λ o. handed o out) (tick-going d s w going))
+    once-going out going tells = tells ∙ ap (λ l. handed (settled d l (length s) w) out) sight ∙ sym (ap (λ o. handed o out) (tick-going d s w going))
 
   pub once-over : (out : List ℕ) {r : Told} → isGoing (w .tally .ending) ≡ false → r ≡ handed (over w) out → r ≡ handed (tick d s w) out
   once-over out ended tells = tells ∙ sym (ap (λ o. handed o out) (over-lasts d s w ended))

@@ -15,7 +15,7 @@ use Rattle.section.specs.declared.Tally.{Tally}
 use Rattle.section.specs.declared.Walk.{Walk}
 use Rattle.section.specs.Answers.{Told, told}
 use Rattle.section.specs.Owes.{IsOverOwes, StartOwes, AdmitsOwes, RoomNeededOwes, CheckOwes, PutOwes, RefusedOwes, OverOwes, AfterOwes, SettleOwes, LookOwes}
-use Rattle.section.proofs.Paper.{paper-injective}
+use Rattle.section.proofs.Paper.{paper-injective, found-injective}
 
 -- what is told says the answer and the buffer
 pub told-one : (r t : Looked) (a b : List ℕ) → told r a ≡ told t b → (r ≡ t) × (a ≡ b)
@@ -36,7 +36,7 @@ pub room-needed-one : (d : Definition) {r t : ℕ} → RoomNeededOwes d r → Ro
 room-needed-one d = one-answer
 
 pub check-one : (d : Definition) (w : Walk) (z room : ℕ) {r t : Check} → CheckOwes d w z room r → CheckOwes d w z room t → r ≡ t
-check-one d w z room = one-answer
+check-one d w z room {r} {t} p q = found-injective r t (one-answer p q)
 
 pub put-one : (values out : List ℕ) {a b : List ℕ} → PutOwes values out a → PutOwes values out b → a ≡ b
 put-one values out = one-answer

@@ -1,7 +1,8 @@
--- The numbers tell the answers apart: an answer can be read back from what it says in them.
+-- The numbers tell answers apart, and verdicts: each can be read back from what it says in them.
 use Prim.Native.Nat.{ℕ}
 use mathlib.Core.Bool.{cond}
 use mathlib.Core.List.{List, [], _∷_}
+use mathlib.Core.Option.{none, some}
 use mathlib.Core.Path.{_≡_, refl, sym, ap, _∙_}
 use lib.Dec.{eqb}
 use lib.ListN.{getD}
@@ -12,10 +13,12 @@ use Rattle.reader.specs.declared.Letter.the-variants.{Is, Other}
 use Rattle.reader.specs.Search.{byteOf, letterOf}
 use Rattle.section.specs.declared.Answer.{Answer}
 use Rattle.section.specs.declared.Answer.the-variants.{Passed, Rejected, Event, Intra, Inter, Slow, Over, Refused}
+use Rattle.section.specs.declared.Check.{Check}
+use Rattle.section.specs.declared.Check.the-variants as check
 use Rattle.section.specs.declared.Ending.the-variants.{Going, Done, Out, Cut}
 use Rattle.section.specs.declared.MainAnswer.{MainAnswer}
 use Rattle.section.specs.declared.Refusal.the-variants.{Unsound, TooShort}
-use Rattle.section.specs.Answers.{Paper, paperOf}
+use Rattle.section.specs.Answers.{Paper, paperOf, Finding, found}
 
 -- ## Kinds
 
@@ -82,3 +85,18 @@ answer-back (Rejected k p) = ap (λ j. Rejected j p) (spelt-back k)
 
 pub paper-injective : (a b : Answer) → paperOf a ≡ paperOf b → a ≡ b
 paper-injective a b e = sym (answer-back a) ∙ ap answerOf e ∙ answer-back b
+
+-- ## Verdicts
+
+verdictOf : Finding → Check
+verdictOf none = check.Pass
+verdictOf (some p) = cond (eqb (p .number) 10) (check.Refused Unsound) (check.Refused (TooShort (at (p .values) 0)))
+
+verdict-back : (c : Check) → verdictOf (found c) ≡ c
+unfolding found paperOf verdictOf
+verdict-back check.Pass = refl
+verdict-back (check.Refused Unsound) = refl
+verdict-back (check.Refused (TooShort n)) = refl
+
+pub found-injective : (a b : Check) → found a ≡ found b → a ≡ b
+found-injective a b e = sym (verdict-back a) ∙ ap verdictOf e ∙ verdict-back b

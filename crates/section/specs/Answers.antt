@@ -1,8 +1,10 @@
 -- What an answer says in document 01's numbers, and what a call leaves behind: the state handed back and the lent buffer's content.
 use Prim.Native.Nat.{ℕ}
-use mathlib.Core.Bool.{Bool, true, false}
+use mathlib.Core.Bool.{Bool, true, false, cond}
 use mathlib.Core.List.{List, [], _∷_}
+use mathlib.Core.Option.{Option, none, some}
 use mathlib.Core.Path.{_≡_}
+use lib.Dec.{leb}
 use lib.Seq.{sets}
 use Rattle.plan.specs.declared.Definition.{Definition}
 use Rattle.plan.specs.Plan.{fields}
@@ -17,6 +19,7 @@ use Rattle.section.specs.declared.MainAnswer.{MainAnswer}
 use Rattle.section.specs.declared.Refusal.{Refusal}
 use Rattle.section.specs.declared.Refusal.the-variants.{Unsound, TooShort}
 use Rattle.section.specs.declared.Walk.{Walk}
+use Rattle.section.specs.Refusals.{admitted}
 use Rattle.section.specs.Walk.{Outcome}
 
 -- a number and values
@@ -26,6 +29,9 @@ pub record Paper : Type 0 where
 
 abbrev paper : ℕ → List ℕ → Paper
 paper n vs = record { number = n; values = vs }
+
+abbrev pub refusal : (number place : ℕ) → Paper
+refusal number place = paper number (place ∷ [])
 
 abbrev numbersOf : MainAnswer → List ℕ
 numbersOf x = x .at ∷ x .iteration ∷ x .time ∷ []
@@ -38,14 +44,26 @@ paperOf (Event x) = paper 69 (x .at ∷ x .event .code ∷ x .event .first ∷ x
 paperOf (Intra x) = paper 73 (numbersOf x)
 paperOf (Inter x) = paper 80 (numbersOf x)
 paperOf (Slow x) = paper 83 (x .at ∷ [])
-paperOf (Refused Unsound) = paper 10 (0 ∷ [])
-paperOf (Refused (TooShort n)) = paper 11 (n ∷ [])
+paperOf (Refused Unsound) = refusal 10 0
+paperOf (Refused (TooShort n)) = refusal 11 n
 paperOf (Over Out) = paper 1 []
 paperOf (Over (Cut k p)) = paper 2 (byteOf k ∷ p ∷ [])
 paperOf (Over Done) = paper 3 []
 paperOf (Over Going) = paper 4 []
 paperOf Passed = paper 0 []
 paperOf (Rejected k p) = paper 0 (byteOf k ∷ p ∷ [])
+
+-- what a check finds: no refusal, or the number and place of one
+abbrev pub Finding : Type 0
+Finding = Option Paper
+
+unfoldable pub found : Check → Finding
+found check.Pass = none
+found (check.Refused why) = some (paperOf (Refused why))
+
+-- 10 at 0, and behind it 11 with the needed length, for a buffer that has to have so many places
+unfoldable pub refusalFor : (least : ℕ) → Definition → Walk → (length room : ℕ) → Finding
+refusalFor least d w z room = cond (admitted d z w) (cond (leb least room) none (some (refusal 11 least))) (some (refusal 10 0))
 
 -- done, out of data, cut and refusals are no frames, and the same call again gives none
 unfoldable pub isOver : Answer → Bool

@@ -14,7 +14,7 @@ use Rattle.section.specs.declared.Looked.{Looked}
 use Rattle.section.specs.declared.Refusal.{Refusal}
 use Rattle.section.specs.declared.Tally.{Tally}
 use Rattle.section.specs.declared.Walk.{Walk}
-use Rattle.section.specs.Answers.{isOver, told, handed, Tells, refusing, checkedFirst}
+use Rattle.section.specs.Answers.{found, refusalFor, isOver, told, handed, Tells, refusing, checkedFirst}
 use Rattle.section.specs.Refusals.{admitted, needed, checked}
 use Rattle.section.specs.Tally.{tallyAfter}
 use Rattle.section.specs.Walk.{start, settled, over, tick}
@@ -32,7 +32,7 @@ abbrev pub RoomNeededOwes : Definition → ℕ → Type 0
 RoomNeededOwes d r = r ≡ needed d
 
 abbrev pub CheckOwes : Definition → Walk → (length room : ℕ) → Check → Type 0
-CheckOwes d w z room r = r ≡ checked d w z room
+CheckOwes d w z room r = found r ≡ refusalFor (needed d) d w z room
 
 abbrev pub PutOwes : (values out after : List ℕ) → Type 0
 PutOwes values out after = after ≡ sets out 0 values

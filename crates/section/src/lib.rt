@@ -204,7 +204,7 @@ fn look_once(d: Definition, w: Walk, s: &[u8], out: &mut [u32]) -> Looked
     let ending = tally.ending;
     match ending {
         Ending::Going => {
-            let l = extent::sight(d, s, tally.place, false);
+            let l = extent::sight(d, s, tally.place);
             settle(d, w, l, s.len(), out)
         }
         Ending::Done => over(w),

@@ -1,4 +1,4 @@
--- `extent::rejected` meets its contract: a search from the point. Assumes nothing.
+-- `extent::rejected` meets its contract: a search from the point. Assumes a flag that is right.
 use borrow.Author.Needs.{needs}
 use Rattle.extent.proofs.Trials.{rejected-by}
 use Rattle.extent.proofs.rejected.Statement.{statement}

@@ -1,6 +1,6 @@
--- `extent::search` meets its contract: a search, unless it is known to find nothing. Assumes nothing.
+-- `extent::search` meets its contract: a search, unless it is known to find nothing. Assumes a flag that is right.
 use borrow.Author.Needs.{needs}
-use Rattle.extent.proofs.First.{search-saved, search-made}
+use Rattle.extent.proofs.Flag.{search-saved}
 use Rattle.extent.proofs.search.Statement.{statement}
 use Rattle.extent.proofs.search.Tie as tie
 
@@ -8,6 +8,6 @@ pub search-spec : {M : Type 1} → statement M
 search-spec =
     tie.close
     (tie.spec
-    (λ c. search-saved _ (c .if1 .taken))
+    (λ c. search-saved _ _ (c .before .before .pre) (c .if1 .taken))
     (λ c κs. search needs)
-    (λ c. search-made _ (c .before .if1 .left) (c .skip-to-frame .ensures)))
+    (λ c. c .skip-to-frame .ensures))

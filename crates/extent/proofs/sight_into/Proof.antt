@@ -1,6 +1,7 @@
--- `extent::sight_into` meets its contract: nothing there, a trial by the kind of the byte, or a search behind it. Assumes nothing.
+-- `extent::sight_into` meets its contract: nothing there, a trial by the kind of the byte, or a search behind it. It requires a flag that is right.
 use borrow.Author.Needs.{needs}
-use Rattle.extent.proofs.First.{sight-kind, sight-other, sight-nothing}
+use Rattle.extent.proofs.Flag.{barren-point}
+use Rattle.extent.proofs.First.{barren-behind, sight-kind, sight-other, sight-nothing}
 use Rattle.extent.proofs.sight_into.Statement.{statement}
 use Rattle.extent.proofs.sight_into.Tie as tie
 
@@ -12,10 +13,14 @@ sight-into-spec =
     (λ c. search needs)
     (λ c κs. search needs)
     (λ c. search needs)
-    (λ c κs. search needs)
+    (λ c κs.
+    let a = c .before .before .before .before .before .before in
+    barren-behind _ _ (a .before .before .read-u8 .ensures) (a .byte .given .1) (search needs))
     (λ c. search needs)
     (λ c κs. search needs)
-    (λ c κs. search needs)
+    (λ c κs.
+    let a = c .before .before .before .before .before in
+    barren-point (c .get-restore-point .ensures) (barren-behind _ _ (a .before .before .read-u8 .ensures) (a .byte .given .1) (search needs)))
     (λ c κs. search needs)
     (λ c. search needs)
     (λ c κs. search needs)
@@ -24,7 +29,7 @@ sight-into-spec =
     let b = a .before .before in
     let e = b .before .before in
     let f = e .before .before in
-    sight-kind _ _ (f .read-u8 .ensures) _ _ (e .byte .given .1) (b .from-byte .ensures) (a .letter .given .1) (c .try-kind .ensures))
+    sight-kind _ _ (f .read-u8 .ensures) _ (e .byte .given .1) (b .from-byte .ensures) (a .letter .given .1) (c .try-kind .ensures))
     (λ c.
     let a = c .before .before in
     let b = a .before in
@@ -32,8 +37,8 @@ sight-into-spec =
     let f = e .before .before in
     let g = f .before .before in
     let h = g .before .before in
-    sight-other _ _ (h .read-u8 .ensures) _ _ (g .byte .given .1) (f .from-byte .ensures) (e .enum-told .given .1) (b .get-restore-point .ensures) (a .search .ensures) (c .without-numbers .ensures))
+    sight-other _ _ (h .read-u8 .ensures) _ (g .byte .given .1) (f .from-byte .ensures) (e .enum-told .given .1) (b .get-restore-point .ensures) (a .search .ensures) (c .without-numbers .ensures))
     (λ c.
     let a = c .before .before in
     let b = a .before .before in
-    sight-nothing _ _ (b .read-u8 .ensures) _ _ (a .enum-told2 .given .1) (c .without-numbers2 .ensures)))
+    sight-nothing _ _ (b .read-u8 .ensures) _ (a .enum-told2 .given .1) (c .without-numbers2 .ensures)))

@@ -16,12 +16,12 @@ use Rattle.rows.proofs.lay.Statement.{statement}
 use Rattle.rows.proofs.lay.Tie as tie
 
 abbrev Inv-loop : tie.InvT-loop
-Inv-loop d s out₀ n size room last₀ older₀ raws₀ values₀ walk₀ barren₀ count₀ at₀ out last older raws values walk barren count at =
+Inv-loop d s out₀ n size room last₀ older₀ values₀ walk₀ barren₀ count₀ at₀ out last older values walk barren count at =
     (count ≤ room) × (at ≡ count * size) × (length out ≡ length out₀) × Ready d s (walkOf walk last older) barren
     × Laying d s out₀ (walkOf walk₀ last₀ older₀) room out (walkOf walk last older) count at
 
 abbrev μ-loop : tie.MeasureT-loop
-μ-loop d s out₀ n size room last₀ older₀ raws₀ values₀ walk₀ barren₀ count₀ at₀ out last older raws values walk barren count at = room - count
+μ-loop d s out₀ n size room last₀ older₀ values₀ walk₀ barren₀ count₀ at₀ out last older values walk barren count at = room - count
 
 pub lay-spec : {M : Type 1} → statement M
 lay-spec =
@@ -45,7 +45,7 @@ lay-spec =
       laying-first _ _ _ _ (a .row-length .ensures),
     ))
     (λ c κs.
-    let a = c .before .before .before .before .before in
+    let a = c .before .before .before .before in
     let t = a .loop .inv .3 in ((t .kept .so, ready-rooms _ _ t refl), t .right))
     (λ c κs. search needs)
     (λ c κs. search needs)
@@ -54,29 +54,29 @@ lay-spec =
     let p = c .before in
     let q = p .before in
     let r = q .before .before in
-    let u = r .before .before .before .before .before in
+    let u = r .before .before .before .before in
     let v = u .before in
     let w = v .before in
     let x = w .before .before .before .before .before .before .before .before .before .before in
     laid-whole _ _ _ _ (light-whole (x .args .w) (w .light .ensures)) (c .with .ensures) (laying-over _ _ _ _ (v .loop .inv .4) (r .step-in .ensures) (u .loop-test .taken) (q .is-over .ensures) (p .if1 .taken)))
     (λ c κs. search needs)
     (λ c κs.
-    let a = c .before .before .before .before .before .before .before .before .before .before .before .before in
+    let a = c .before .before .before .before .before .before .before .before .before .before .before in
     let b = a .before in
     let e = b .before .before .before .before .before .before .before in
     let f = e .before in
     omega (arith, row-fits _ _ _ _ (a .loop-test .taken) refl _ (b .loop .inv .1), row-size _ (e .row-length .ensures) (f .width .ensures .0), b .loop .inv .2, f .width .ensures .1))
     (λ c.
-    let a = c .before .before .before .before .before .before .before .before .before .before .before .before .before .before .before in
+    let a = c .before .before .before .before .before .before .before .before .before .before .before .before .before .before in
     let b = a .before in
     let e = b .before .before .before .before .before .before .before .before .before .before .before in
     omega (arith, row-fits _ _ _ _ (a .loop-test .taken) refl _ (b .loop .inv .1), e .good .1 .1 .1 .0 .0))
     (λ c.
-    let a = c .before .before .before .before .before .before .before .before .before .before .before .before .before .before .before in
+    let a = c .before .before .before .before .before .before .before .before .before .before .before .before .before .before in
     let b = a .before .before .before .before .before .before .before .before .before .before .before .before in
     omega (arith, rows-below _ _ _ _ (a .loop-test .taken) refl, b .good .1 .1 .1 .0 .0))
     (λ c.
-    let a = c .before .before .before .before .before .before .before .before .before .before .before .before .before .before .before in
+    let a = c .before .before .before .before .before .before .before .before .before .before .before .before .before .before in
     omega (arith, a .loop-test .taken))
     (λ c.
     let p = c .before .before in
@@ -84,7 +84,7 @@ lay-spec =
     let r = q .before .before in
     let u = r .before in
     let v = u .before .before in
-    let w = v .before .before .before .before .before in
+    let w = v .before .before .before .before in
     let x = w .before in
     let y = x .before .before .before .before .before .before .before in
     let z = y .before in (

@@ -12,10 +12,10 @@ use Rattle.calls.proofs.quick.looks_in.Statement.{statement}
 use Rattle.calls.proofs.quick.looks_in.Tie as tie
 
 abbrev Inv-loop : tie.InvT-loop
-Inv-loop d s barren last₀ older₀ raws₀ values₀ heads tally₀ known₀ last older raws values tally known = Lies d s last₀ older₀ heads tally₀ last older tally known
+Inv-loop d s barren last₀ older₀ values₀ heads tally₀ known₀ raws₀ last older values tally known raws = Lies d s last₀ older₀ heads tally₀ last older tally known
 
 abbrev μ-loop : tie.MeasureT-loop
-μ-loop d s barren last₀ older₀ raws₀ values₀ heads tally₀ known₀ last older raws values tally known = length s - tally .place
+μ-loop d s barren last₀ older₀ values₀ heads tally₀ known₀ raws₀ last older values tally known raws = length s - tally .place
 
 pub looks-in-spec : {M : Type 1} → statement M
 looks-in-spec =
@@ -30,7 +30,7 @@ looks-in-spec =
       older-kept = refl;
       stands = stands-first _ _ (replicate 62 0) (walkOf (a .args .w) _ _) _ (a .pre .0 .0) (a .pre .1 .0) (a .pre .1 .1) (tally-counts (a .args .w .tally) (a .good .1 .0 .1 .1 .0));
     })
-    (λ c κs. search needs)
+    (λ c κs. c .before .loop .inv .stands .right)
     (λ c κs. search needs)
     (λ c. search needs)
     (λ c κs.
