@@ -1,13 +1,15 @@
 -- Fields read by lists of their own: numbers in 62 rooms make the values that the numbers make, and what the code answers is what is read.
 use Prim.Native.Nat.{ℕ, _<_, _≤_}
-use mathlib.Core.Bool.{Bool}
+use mathlib.Core.Bool.{Bool, true, false, cond, not}
 use mathlib.Core.List.{List}
 use mathlib.Core.Option.{Option}
-use mathlib.Core.Path.{_≡_, refl, ap, ap₂, _∙_}
+use mathlib.Core.Path.{_≡_, refl, sym, ap, ap₂, _∙_}
 use native.Mathlib.Omega.{arith}
 use lib.ListN.{length, take, getD, replicate, length-take}
 use lib.Seq.{sets-eq, take-append-le}
-use borrow.Author.Tests.{lt-ltb, le-ltb}
+use borrow.Author.Tests.{not-true, not-false}
+use Rattle.plan.specs.Owes.{AreSoundOwes}
+use Rattle.plan.proofs.Sound.{fields-few}
 use Rattle.predictor.specs.Owes.{given}
 use Rattle.raws.specs.declared.Reading.{Reading}
 use Rattle.raws.specs.Groups.{numbers}
@@ -80,6 +82,10 @@ module _ (f : Fields) (last older : Option (List ℕ)) (from : Cursor) {r : Read
 
 -- ## The answers of `read_fields`
 
+-- fields that are sound have rooms
+pub sound-few : (n : ℕ) (es ps : List ℕ) (x : Context) {b : Bool} → AreSoundOwes n ps es (x .motor) (x .around .numbers) b → not b ≡ false → n ≤ 62
+sound-few n es ps x {b} asked passed = fields-few 62 (x .around .numbers) (x .motor) n (take n ps) (take n es) (sym asked ∙ not-false b passed)
+
 module _ (n : ℕ) (es ps : List ℕ) (x : Context) (s : List ℕ) (from : Cursor) where
   abbrev own : Fields
   own = fieldsIn (take n es) (take n ps) x
@@ -87,27 +93,31 @@ module _ (n : ℕ) (es ps : List ℕ) (x : Context) (s : List ℕ) (from : Curso
   abbrev read : Got (List ℕ)
   read = numbers (take n es) (rest from s)
 
-  -- up to 62 fields are read
-  few-are : {t : FieldReading} → t ≡ made own (lastIn x) (olderIn x) from read → n ≤ 62 → ReadFieldsOwes n es ps x s from t
-  unfolding byLists fieldsRead
-  few-are e h = rw le-ltb e
+  module _ {b : Bool} (asked : AreSoundOwes n ps es (x .motor) (x .around .numbers) b) where
+    decided : (k : Bool) → b ≡ k → ReadFieldsOwes n es ps x s from (cond k (made own (lastIn x) (olderIn x) from read) (noFields (Refused 10 0)))
+    unfolding byLists fieldsRead
+    decided k is = ap (λ t. cond t (made own (lastIn x) (olderIn x) from read) (noFields (Refused 10 0))) (sym is ∙ asked)
 
-  -- more are refused
-  pub fields-too-many : {t : FieldReading} → t ≡ noFields (Refused 10 0) → 62 < n → ReadFieldsOwes n es ps x s from t
-  unfolding byLists
-  fields-too-many e h = rw lt-ltb e
+    -- what is not sound is refused
+    pub fields-refused : {t : FieldReading} → t ≡ noFields (Refused 10 0) → not b ≡ true → ReadFieldsOwes n es ps x s from t
+    fields-refused e h = e ∙ decided false (not-true b h)
 
-  module _ {r : Reading} (e : MainFieldsOwes n es s from 0 0 r) (few : n ≤ 62) where
-    pub fields-got : {q : Cursor} {vs : List ℕ} → r .step ≡ step.Next q → vs ≡ laid own (lastIn x) (olderIn x) (r .raw .fields)
-        → (length es ≡ 62) × (length ps ≡ 62) → ((j : ℕ) → getD s j 0 < 256)
-        → ReadFieldsOwes n es ps x s from (record { taken = Next q; fields = record { raws = r .raw .fields; values = vs } })
-    fields-got is v h bytes =
-        let alike : length (take n es) ≡ length (take n ps) = omega (arith, length-take n es, length-take n ps) in
-        let count : Every (Counts (length (take n es))) read = numbers-count (take n es) .every (rest from s) (drop-each (λ b. b < 256) (from .at) s (bytes-of s bytes)) in
-        few-are (made-got own (lastIn x) (olderIn x) from read e is v (rw alike at count) (omega (arith, length-take n ps))) few
+    -- what is sound is read
+    module _ (passed : not b ≡ false) where
+      sound-are : {t : FieldReading} → t ≡ made own (lastIn x) (olderIn x) from read → ReadFieldsOwes n es ps x s from t
+      sound-are e = e ∙ decided true (not-false b passed)
 
-    pub fields-cut : {t : FieldReading} → t ≡ noFields Cut → r .step ≡ step.Cut → ReadFieldsOwes n es ps x s from t
-    fields-cut y is = few-are (y ∙ made-cut own (lastIn x) (olderIn x) from read e is) few
+      module _ {r : Reading} (e : MainFieldsOwes n es s from 0 0 r) where
+        pub fields-got : {q : Cursor} {vs : List ℕ} → r .step ≡ step.Next q → vs ≡ laid own (lastIn x) (olderIn x) (r .raw .fields)
+            → (length es ≡ 62) × (length ps ≡ 62) → ((j : ℕ) → getD s j 0 < 256)
+            → ReadFieldsOwes n es ps x s from (record { taken = Next q; fields = record { raws = r .raw .fields; values = vs } })
+        fields-got is v h bytes =
+            let alike : length (take n es) ≡ length (take n ps) = omega (arith, length-take n es, length-take n ps) in
+            let count : Every (Counts (length (take n es))) read = numbers-count (take n es) .every (rest from s) (drop-each (λ b. b < 256) (from .at) s (bytes-of s bytes)) in
+            sound-are (made-got own (lastIn x) (olderIn x) from read e is v (rw alike at count) (omega (arith, length-take n ps, sound-few n es ps x asked passed)))
 
-    pub fields-corrupt : {t : FieldReading} → t ≡ noFields Corrupt → r .step ≡ step.Corrupt → ReadFieldsOwes n es ps x s from t
-    fields-corrupt y is = few-are (y ∙ made-corrupt own (lastIn x) (olderIn x) from read e is) few
+        pub fields-cut : {t : FieldReading} → t ≡ noFields Cut → r .step ≡ step.Cut → ReadFieldsOwes n es ps x s from t
+        fields-cut y is = sound-are (y ∙ made-cut own (lastIn x) (olderIn x) from read e is)
+
+        pub fields-corrupt : {t : FieldReading} → t ≡ noFields Corrupt → r .step ≡ step.Corrupt → ReadFieldsOwes n es ps x s from t
+        fields-corrupt y is = sound-are (y ∙ made-corrupt own (lastIn x) (olderIn x) from read e is)

@@ -1,9 +1,9 @@
 -- Fields read at a place by lists of their own, that belong to no definition (document 01, "Module order": `read_field_values`).
 use Prim.Native.Nat.{ℕ}
-use mathlib.Core.Bool.{cond}
+use mathlib.Core.Bool.{Bool, cond}
 use mathlib.Core.List.{List, []}
 use mathlib.Core.Option.{Option}
-use lib.Dec.{ltb}
+use Rattle.plan.specs.Sound.{soundFields}
 use Rattle.raws.specs.Groups.{numbers}
 use Rattle.reader.specs.declared.Cursor.{Cursor}
 use Rattle.reader.specs.Got.{Got, got, cut, corrupt, Reader, over}
@@ -45,7 +45,11 @@ fieldsAt c (got x u) = record { taken = Next (on c u); fields = x }
 fieldsAt c cut = noFields Cut
 fieldsAt c corrupt = noFields Corrupt
 
--- fields by their lists, n of each; more than 62 are refused by 10, at place 0
+-- whether the fields are such as a walk goes by: the count, the predictors, the encodings and the needs (document 01, refusals 3, 8 and 10)
+abbrev pub soundIn : (n : ℕ) → (encodings predictors : List ℕ) → Context → Bool
+soundIn n es ps x = soundFields 62 (x .around .numbers) (x .motor) n ps es
+
+-- fields by their lists, n of each; what is not so is refused by 10, at place 0
 unfoldable pub byLists : (n : ℕ) → (encodings predictors : List ℕ) → Context → (section : List ℕ) → Cursor → FieldReading
 byLists n es ps x s from =
-    cond (ltb 62 n) (noFields (Refused 10 0)) (fieldsAt from (fieldsRead (fieldsIn es ps x) (lastIn x) (olderIn x) (rest from s)))
+    cond (soundIn n es ps x) (fieldsAt from (fieldsRead (fieldsIn es ps x) (lastIn x) (olderIn x) (rest from s))) (noFields (Refused 10 0))

@@ -1,5 +1,5 @@
 // Fields read at a place by lists of their own: the Rust's read_field_values and parse_impl, frame/mod.rs.
-// No definition is asked: the lists and their surroundings come from the caller, and a field count that has no room is refused.
+// No definition is asked: the lists and their surroundings come from the caller, and are refused where a walk's would be.
 ghost use mathlib.Core.Path.{_≡_};
 ghost use Prim.Native.Nat.{_≤_};
 ghost use lib.ListN.{take};
@@ -100,7 +100,8 @@ pub fn read_fields(
 ) -> FieldReading
     ensures { λ r. ⌜ ReadFieldsOwes n encodings predictors context (now (s .entry)) from r ⌝ }
 {
-    if 62 < n {
+    let around = context.around;
+    if !plan::are_sound(n, predictors, encodings, context.motor, around.numbers) {
         return none(Taken::Refused(10, 0));
     }
     let reading = raws::main_fields(n, encodings, s, from, 0, 0);

@@ -2,11 +2,12 @@
 ghost use Prim.Native.Nat.{_≤_};
 use crate::parse;
 use crate::parse::Fields;
+use digits::Number;
 use plan::Definition;
 use plan::Main;
 use plan::Numbers;
+use plan::Settings;
 use plan::Slow;
-use words::Number;
 use words::three::Three;
 
 // A definition, and whether the words are one. Words that are none give a definition with no fields.
@@ -28,6 +29,7 @@ fn with_main(main: Main, numbers: Numbers) -> Defined {
         main,
         slow,
         numbers,
+        settings: Settings::plain(),
     };
     Defined {
         is: true,
@@ -116,6 +118,7 @@ fn slow_with(fields: Fields, numbers: Numbers) -> Defined {
         main,
         slow,
         numbers,
+        settings: Settings::plain(),
     };
     Defined {
         is: true,

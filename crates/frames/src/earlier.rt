@@ -1,9 +1,9 @@
 // The frames before, as a case writes them: - for none, or KIND/ITERATION/TIME/VALUES with a comma between two values.
 use crate::parse;
 use crate::parse::Pattern;
+use digits::Number;
 use frame::MainFrame;
 use frame::Mark;
-use words::Number;
 
 // A frame or none, and whether it is written rightly.
 pub struct Earlier {
@@ -32,13 +32,13 @@ fn no_values() -> Values {
 
 // What stands before the first b, or all where there is none.
 fn part(s: &[u8], b: u8) -> &[u8] {
-    let n = words::until(s, b);
+    let n = digits::until(s, b);
     &s[..n]
 }
 
 // What stands behind the first b.
 fn rest(s: &[u8], b: u8) -> &[u8] {
-    let n = words::until(s, b);
+    let n = digits::until(s, b);
     if n < s.len() { &s[n + 1..] } else { &s[n..] }
 }
 
@@ -55,7 +55,7 @@ fn values_of(text: &[u8], n: usize) -> Values {
     let mut i = 0;
     while i < 62 {
         let from = &text[at..];
-        let k = words::until(from, b',');
+        let k = digits::until(from, b',');
         let next = parse::pattern_of(&from[..k]);
         let Pattern::Is(v) = next else {
             return no_values();
@@ -86,7 +86,7 @@ fn kind_of(text: &[u8]) -> Mark {
 
 fn with_kind(mark: Mark, iteration: &[u8], time: &[u8], values: &[u8], n: usize) -> Earlier {
     let first = parse::pattern_of(iteration);
-    let second = words::decimal(time);
+    let second = digits::decimal(time);
     let third = values_of(values, n);
     let Pattern::Is(i) = first else {
         return no_frame(false);
@@ -116,7 +116,7 @@ pub fn frame_of(word: &[u8], n: usize) -> Earlier {
     }
     let behind_kind = rest(word, b'/');
     let behind_iteration = rest(behind_kind, b'/');
-    if words::until(behind_iteration, b'/') == behind_iteration.len() {
+    if digits::until(behind_iteration, b'/') == behind_iteration.len() {
         return no_frame(false);
     }
     let mark = kind_of(part(word, b'/'));

@@ -1,9 +1,10 @@
-// Runs predictors and frames on cases from standard input, up to 65,536 bytes of them, and prints each case, or its label, with its answer.
+// Runs predictors, frames and fields by lists on cases from standard input, up to 65,536 bytes of them, and prints each case, or its label, with its answer.
 // A case is a line, so that vectors are data and not code: vectors/README.md says what cases there are and how they are made.
 use libc::STDIN_FILENO;
 
 mod define;
 mod earlier;
+mod fields;
 mod inter;
 mod intra;
 mod parse;
@@ -30,6 +31,9 @@ fn case(line: &[u8]) -> bool {
     if check::same(kind, b"slow") {
         return slow::case(rest);
     }
+    if check::same(kind, b"fields") {
+        return fields::case(rest);
+    }
     false
 }
 
@@ -48,7 +52,7 @@ fn lines(text: &[u8]) {
     let mut at = 0;
     while at < text.len() {
         let rest = &text[at..];
-        let n = words::until(rest, b'\n');
+        let n = digits::until(rest, b'\n');
         line(&rest[..n]);
         at += n;
         if at < text.len() {

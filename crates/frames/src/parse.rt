@@ -1,7 +1,7 @@
 // The words of a case: numbers, and the encodings and predictors of fields.
 ghost use Prim.Native.Nat.{_≤_};
+use digits::Number;
 use words::Byte;
-use words::Number;
 
 // A 32-bit pattern.
 pub enum Pattern {
@@ -25,7 +25,7 @@ pub struct Fields {
 }
 
 pub fn code_of(word: &[u8]) -> Byte {
-    let number = words::decimal(word);
+    let number = digits::decimal(word);
     let Number::Is(n) = number else {
         return Byte::Wrong;
     };
@@ -36,7 +36,7 @@ pub fn code_of(word: &[u8]) -> Byte {
 }
 
 pub fn pattern_of(word: &[u8]) -> Pattern {
-    let number = words::decimal(word);
+    let number = digits::decimal(word);
     let Number::Is(n) = number else {
         return Pattern::Wrong;
     };
@@ -51,7 +51,7 @@ pub fn motor(word: &[u8], n: usize) -> Number {
     if check::same(word, b"-") {
         return Number::Is(n);
     }
-    words::decimal(word)
+    digits::decimal(word)
 }
 
 fn no_codes(are: bool) -> Codes
@@ -98,11 +98,23 @@ fn codes_of(word: &[u8], top: u8) -> Codes
     }
 }
 
+// Up to the largest encoding, and the largest predictor.
 pub fn fields_of(encodings: &[u8], predictors: &[u8]) -> Fields
     ensures { λ r. ⌜ r .n ≤ 62 ⌝ }
 {
-    let first = codes_of(encodings, 9);
-    let second = codes_of(predictors, 11);
+    fields_up_to(encodings, 9, predictors, 11)
+}
+
+// Codes that there are not too.
+pub fn any_fields_of(encodings: &[u8], predictors: &[u8]) -> Fields {
+    fields_up_to(encodings, 15, predictors, 15)
+}
+
+fn fields_up_to(encodings: &[u8], top: u8, predictors: &[u8], top_predictor: u8) -> Fields
+    ensures { λ r. ⌜ r .n ≤ 62 ⌝ }
+{
+    let first = codes_of(encodings, top);
+    let second = codes_of(predictors, top_predictor);
     let are = first.are & second.are & (first.n == second.n);
     let a = first.codes;
     let b = second.codes;

@@ -63,7 +63,7 @@ fn with_raw(line: &[u8], field: Field, raw: u32, skipped: u32, motor_0: u32, res
     };
     let behind_throttle = words::behind(rest);
     let last = words::behind(behind_throttle);
-    if words::until(last, b' ') < last.len() {
+    if digits::until(last, b' ') < last.len() {
         return false;
     }
     let around = Surroundings { numbers, skipped };

@@ -42,7 +42,15 @@ pub fn main_frame(frame: MainFrame, n: usize, behind: Cursor) {
     next(behind);
 }
 
-pub fn slow_frame(v: [u32; 62], n: usize, behind: Cursor) {
+// A slow frame, or fields by lists.
+pub fn fields(v: [u32; 62], n: usize, behind: Cursor) {
     values(v, n);
     next(behind);
+}
+
+pub fn refused(number: u8, place: usize) {
+    text(b"refused ");
+    decimal(number as u64);
+    text(b" ");
+    decimal(place as u64);
 }

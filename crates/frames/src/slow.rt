@@ -11,7 +11,7 @@ fn answer(d: Definition, s: &[u8]) {
     let step = reading.step;
     let raw = reading.raw;
     match step {
-        Step::Next(behind) => show::slow_frame(frame::slow(d, raw), d.slow.n, behind),
+        Step::Next(behind) => show::fields(frame::slow(d, raw), d.slow.n, behind),
         Step::Cut => show::text(b"cut"),
         Step::Corrupt => show::text(b"corrupt"),
     }

@@ -6,10 +6,10 @@ use mathlib.Core.Path.{_≡_, refl, sym, ap, ap₂, _∙_}
 use native.Mathlib.Nat.{not-suc-le-zero, le-of-suc-le-suc, add-zero, zero-add}
 use native.Mathlib.Numerals.{add-one}
 use native.Mathlib.Omega.{arith}
-use lib.Dec.{ltb}
+use lib.Dec.{leb}
 use lib.ListN.{length, take, getD, set, replicate, length-map}
 use lib.Seq.{sets, sets-eq, take-all, take-at}
-use borrow.Author.Tests.{ltb-false}
+use borrow.Author.Tests.{leb-true}
 use Rattle.frame.specs.declared.fields.Context.{Context}
 use Rattle.frame.specs.Lists.{byLists}
 use Rattle.reader.specs.declared.Cursor.{Cursor}
@@ -52,15 +52,15 @@ all-laid f fields h =
 pub ends : (fields : List FieldDef) (i : ℕ) (x : Context) (s : List ℕ) (from : Cursor) → i ≡ min (length fields) 62
     → byGathered (length fields) (gathered (take i fields)) x s from ≡ byRecords fields x s from
 unfolding byLists gathered byRecords
-ends fields i x s from e = either (ltb 62 n) refl
+ends fields i x s from e = either (leb n 62) refl
   where
     n : ℕ
     n = length fields
 
-    either : (t : Bool) → ltb 62 n ≡ t → byGathered n (gathered (take i fields)) x s from ≡ byRecords fields x s from
-    either false few =
-        let h : n ≤ 62 = ltb-false 62 n few in
+    either : (t : Bool) → leb n 62 ≡ t → byGathered n (gathered (take i fields)) x s from ≡ byRecords fields x s from
+    either true few =
+        let h : n ≤ 62 = leb-true n 62 few in
         let whole : take i fields ≡ fields = take-all i fields (omega arith) in
         ap (λ fs. byGathered n (gathered fs) x s from) whole
         ∙ ap₂ (λ es ps. byLists n es ps x s from) (all-laid (λ f. f .encoding) fields h) (all-laid (λ f. f .predictor) fields h)
-    either true many = rw many
+    either false many = rw many

@@ -14,6 +14,6 @@ encodingsOf fields = map (λ f. f .encoding) fields
 abbrev pub predictorsOf : List FieldDef → List ℕ
 predictorsOf fields = map (λ f. f .predictor) fields
 
--- more than 62 are refused (10), as any lists of fields are
+-- what 10 refuses of lists of fields is refused of their records
 unfoldable pub byRecords : List FieldDef → Context → (section : List ℕ) → Cursor → FieldReading
 byRecords fields x s from = byLists (length fields) (encodingsOf fields) (predictorsOf fields) x s from

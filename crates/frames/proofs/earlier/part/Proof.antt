@@ -1,6 +1,6 @@
 -- `frames::earlier::part` is safe: the part ends where `until` says. Assumes nothing.
 use borrow.Author.Needs.{needs}
-use Rattle.words.proofs.Parting.{until-taken}
+use Rattle.digits.proofs.Parting.{until-taken}
 use Rattle.frames.proofs.earlier.part.Statement.{statement}
 use Rattle.frames.proofs.earlier.part.Tie as tie
 

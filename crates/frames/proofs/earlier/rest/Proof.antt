@@ -1,6 +1,6 @@
 -- `frames::earlier::rest` is safe: what `until` answers lies within the text. Assumes nothing.
 use borrow.Author.Needs.{needs}
-use Rattle.words.proofs.Parting.{until-within}
+use Rattle.digits.proofs.Parting.{until-within}
 use Rattle.frames.proofs.earlier.rest.Statement.{statement}
 use Rattle.frames.proofs.earlier.rest.Tie as tie
 
