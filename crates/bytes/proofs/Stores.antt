@@ -6,7 +6,7 @@ use native.Mathlib.Omega.{arith}
 use native.Mathlib.Numerals.{add-one}
 use lib.ListN.{length, getD, take, set}
 use lib.Seq.{sets, take-suc, length-take-le, take-all}
-use Rattle.bytes.specs.Bytes.{le32, le64, words}
+use Rattle.bytes.specs.Bytes.{le32, le64, words, longs}
 
 pub length-le32 : (v : ℕ) → length (le32 v) ≡ 4
 unfolding le32
@@ -25,6 +25,16 @@ pub words-snoc : (vs : List ℕ) (v : ℕ) → words (vs ++ (v ∷ [])) ≡ word
 unfolding words le32
 words-snoc [] v = refl
 words-snoc (x ∷ vs) v = rw (words-snoc vs v)
+
+pub length-longs : (vs : List ℕ) → length (longs vs) ≡ 8 * length vs
+unfolding longs le64 le32
+length-longs [] = refl
+length-longs (v ∷ vs) = let h = length-longs vs in omega arith
+
+longs-snoc : (vs : List ℕ) (v : ℕ) → longs (vs ++ (v ∷ [])) ≡ longs vs ++ le64 v
+unfolding longs le64 le32
+longs-snoc [] v = refl
+longs-snoc (x ∷ vs) v = rw (longs-snoc vs v)
 
 pub sets-append : (l : List ℕ) (i : ℕ) (xs ys : List ℕ) {j : ℕ} → j ≡ i + length xs → sets (sets l i xs) j ys ≡ sets l i (xs ++ ys)
 sets-append l i [] ys e = ap (λ (k : ℕ). sets l k ys) (let q : _ ≡ i = omega arith in q)
@@ -48,13 +58,23 @@ pub put-long : (b₀ : List ℕ) (at v : ℕ) {b b' : List ℕ} {x y : ℕ} → 
 unfolding le64
 put-long b₀ at v {b} {b'} {x} {y} e p f q = then-put b₀ at (le32 x) (le32 y) e f (let g = length-le32 x in omega arith) ∙ rw (p, q)
 
--- one value more, and one byte more: what is stored are the first i + 1
+-- one number more, of whatever width: what is stored are the first i + 1
+put-next : (f : List ℕ → List ℕ) (g : ℕ → List ℕ) (w : ℕ) → ((vs : List ℕ) (v : ℕ) → f (vs ++ (v ∷ [])) ≡ f vs ++ g v)
+    → ((vs : List ℕ) → length (f vs) ≡ w * length vs)
+    → (vs b₀ b b' : List ℕ) (at i j : ℕ) → b ≡ sets b₀ at (f (take i vs)) → i < length vs → j ≡ at + w * i
+    → b' ≡ sets b j (g (getD vs i 0)) → b' ≡ sets b₀ at (f (take (i + 1) vs))
+put-next f g w snoc long vs b₀ b b' at i j e h p r =
+    let m : j ≡ at + length (f (take i vs)) = simp (long, length-take-le i vs (omega arith)) p in
+    then-put b₀ at (f (take i vs)) (g (getD vs i 0)) e r m
+    ∙ ap (sets b₀ at) (sym (snoc (take i vs) (getD vs i 0)) ∙ ap f (rw (add-one, take-suc vs i 0 (omega arith))))
+
 pub put-value : (vs b₀ b b' : List ℕ) (at i j : ℕ) → b ≡ sets b₀ at (words (take i vs)) → i < length vs → j ≡ at + 4 * i →
     b' ≡ sets b j (le32 (getD vs i 0)) → b' ≡ sets b₀ at (words (take (i + 1) vs))
-put-value vs b₀ b b' at i j e h p r =
-    let m : j ≡ at + length (words (take i vs)) = simp (length-words, length-take-le i vs (omega arith)) p in
-    then-put b₀ at (words (take i vs)) (le32 (getD vs i 0)) e r m
-    ∙ ap (sets b₀ at) (sym (words-snoc (take i vs) (getD vs i 0)) ∙ ap words (rw (add-one, take-suc vs i 0 (omega arith))))
+put-value = put-next words le32 4 words-snoc length-words
+
+pub put-number : (vs b₀ b b' : List ℕ) (at i j : ℕ) → b ≡ sets b₀ at (longs (take i vs)) → i < length vs → j ≡ at + 8 * i →
+    b' ≡ sets b j (le64 (getD vs i 0)) → b' ≡ sets b₀ at (longs (take (i + 1) vs))
+put-number = put-next longs le64 8 longs-snoc length-longs
 
 pub put-byte : (bs b₀ b : List ℕ) (at i : ℕ) → b ≡ sets b₀ at (take i bs) → i < length bs → set b (at + i) (getD bs i 0) ≡ sets b₀ at (take (i + 1) bs)
 put-byte bs b₀ b at i e h =

@@ -16,6 +16,11 @@ unfoldable pub words : List ℕ → List ℕ
 words [] = []
 words (v ∷ vs) = le32 v ++ words vs
 
+-- numbers of 64 bits, one behind the other
+unfoldable pub longs : List ℕ → List ℕ
+longs [] = []
+longs (v ∷ vs) = le64 v ++ longs vs
+
 -- the number in the first four bytes
 unfoldable pub num32 : List ℕ → ℕ
 num32 bs = getD bs 0 0 + getD bs 1 0 * 256 + getD bs 2 0 * 65536 + getD bs 3 0 * 16777216

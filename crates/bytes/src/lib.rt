@@ -4,7 +4,7 @@ ghost use mathlib.Core.Path.{_≡_};
 ghost use Prim.Native.Nat.{_+_, _*_, _/_, _%_, _≤_, _<_};
 ghost use lib.ListN.{length, take, drop};
 ghost use lib.Seq.{sets};
-ghost use Rattle.bytes.specs.Bytes.{le32, le64, words, num32, num64, nums};
+ghost use Rattle.bytes.specs.Bytes.{le32, le64, words, longs, num32, num64, nums};
 
 fn low(x: u32) -> u8
     ensures { λ r. ⌜ r ≡ x % 256 ⌝ }
@@ -81,6 +81,20 @@ pub fn put_values(buf: &mut [u8], at: usize, values: &[u32])
     while i < values.len() {
         put32(buf, j, values[i]);
         j += 4;
+        i += 1;
+    }
+}
+
+// Numbers, eight bytes each.
+pub fn put_longs(buf: &mut [u8], at: usize, numbers: &[u64])
+    requires { ⌜ at + 8 * length (now numbers) ≤ length (now buf) ⌝ }
+    ensures { λ _. ⌜ now (buf .exit) ≡ sets (now (buf .entry)) at (longs (now (numbers .entry))) ⌝ }
+{
+    let mut i: usize = 0;
+    let mut j = at;
+    while i < numbers.len() {
+        put64(buf, j, numbers[i]);
+        j += 8;
         i += 1;
     }
 }

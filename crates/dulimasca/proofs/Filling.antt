@@ -1,5 +1,6 @@
--- The ways through `dulimasca_fill`: no definition, no such kind, a frame or how the walk ended before it, a refusal. A frame's fields are the first values of the inner buffer.
-use Prim.Native.Nat.{ℕ, _/_, _≤_}
+-- The ways through `dulimasca_fill`: no definition, no such kind, a refusal, no room for the numbers, a frame or how the walk ended before it.
+-- A frame's fields are the first values of the inner buffer.
+use Prim.Native.Nat.{ℕ, _/_, _<_, _≤_}
 use mathlib.Core.Bool.{true, false}
 use mathlib.Core.List.{List}
 use mathlib.Core.Path.{_≡_, sym, ap, ap₂, _∙_}
@@ -22,7 +23,7 @@ use Rattle.section.specs.Refusals.{admitted, needed, checked}
 use Rattle.section.specs.Walk.{Outcome, start}
 use Rattle.section.proofs.Admitted.{admitted-sound, needed-rooms, checked-pass}
 use Rattle.section.proofs.Paper.{paper-injective}
-use Rattle.bytes.specs.Bytes.{words}
+use Rattle.bytes.specs.Bytes.{words, longs}
 use Rattle.store.specs.declared.TakenDefinition.{TakenDefinition}
 use Rattle.store.specs.Definition.{takenDefinition}
 use Rattle.walks.specs.declared.Goal.the-variants.{Frame}
@@ -31,9 +32,10 @@ use Rattle.walks.specs.Owes as walks
 use Rattle.walks.specs.Walks.{walked, filledOf}
 use Rattle.walks.proofs.Fields.{begins-with, hands-out-rooms, hands-out-few, walked-full}
 use Rattle.dulimasca.specs.declared.walking.SortFor.{SortFor}
-use Rattle.dulimasca.specs.Calls.{filled, checkedFill, fillBy, fillOf}
+use Rattle.dulimasca.specs.Calls.{fillNumbers, filled, checkedFill, fillBy, fillOf}
 use Rattle.dulimasca.specs.Owes.{FillOwes}
-use Rattle.dulimasca.specs.Told.{Replies, Reply, reply, telling, refuse, refusing, sortFor}
+use Rattle.dulimasca.specs.Told.{Reply, packed, packedBy, toldLength, reply, refuse, ifRoom, sortFor}
+use Rattle.dulimasca.proofs.Replying.{tells, refuses, room-there, room-short}
 use Rattle.dulimasca.proofs.Taken.{taken, not-taken}
 
 -- ## A check that passes
@@ -60,71 +62,84 @@ module _ (d : Definition) (s : List ℕ) (of : Sort) (k : ℕ) (sane : sound d �
   end = walked (Frame of k) d s start
 
   module _ (buf : List ℕ) (l : length buf ≡ 62) (x : Looked) {after : List ℕ} (fills : walks.FillOwes d s of k buf x after) where
-    tells : filledOf of k d s buf ≡ handed end buf
+    tells-end : filledOf of k d s buf ≡ handed end buf
     unfolding filledOf checkedFirst
-    tells = ap (λ (y : Check). checkedFirst y end start buf) (ap (checked d start (length s)) l ∙ pass)
+    tells-end = ap (λ (y : Check). checkedFirst y end start buf) (ap (checked d start (length s)) l ∙ pass)
 
     same-answer : x .answer ≡ end .answer
     unfolding handed
-    same-answer = paper-injective (x .answer) (end .answer) (ap (λ (y : Told). y .said) (fills ∙ tells))
+    same-answer = paper-injective (x .answer) (end .answer) (ap (λ (y : Told). y .said) (fills ∙ tells-end))
 
     first-values : {n : ℕ} → n ≡ handsOut d (x .answer) → take n after ≡ end .fields
     unfolding handed
     first-values e =
-        ap₂ take (e ∙ ap (handsOut d) same-answer) (ap (λ (y : Told). y .out) (fills ∙ tells))
+        ap₂ take (e ∙ ap (handsOut d) same-answer) (ap (λ (y : Told). y .out) (fills ∙ tells-end))
         ∙ begins-with d end buf (walked-full d sane (Frame of k) s start) (omega (arith, l, hands-out-few d sane (end .answer)))
 
-    values-given : {n status : ℕ} (out told : List ℕ) {out' xs told' : List ℕ} → n ≡ handsOut d (x .answer) → out' ≡ sets out 0 (words (take n after))
-        → xs ≡ padded 8 (paperOf (x .answer) .values) → told' ≡ sets told 0 xs → status ≡ paperOf (x .answer) .number
-        → reply status out' told' ≡ filled end out told
-    unfolding filled telling
+    same-trials : x .trials ≡ end .walk .tally .trials
+    unfolding handed
+    same-trials = ap (λ (y : Told). y .trials) (fills ∙ tells-end)
+
+    values-given : {n a : ℕ} (out told : List ℕ) {out' xs told' : List ℕ} → n ≡ handsOut d (x .answer) → out' ≡ sets out 0 (words (take n after))
+        → xs ≡ padded 8 (fillNumbers (x .answer) (x .trials)) → told' ≡ sets told 0 (longs xs) → a ≡ paperOf (x .answer) .number
+        → reply a out' told' ≡ filled end out told
+    unfolding filled
     values-given out told e put numbers tell is =
         let a = ap (λ (y : Answer). paperOf y .number) same-answer in
-        let b = ap (λ (y : Answer). padded 8 (paperOf y .values)) same-answer in
+        let b = ap₂ (λ (y : Answer) (n : ℕ). padded 8 (fillNumbers y n)) same-answer same-trials in
         let lent = put ∙ ap (λ ys. sets out 0 (words ys)) (first-values e) in
-        let says = tell ∙ ap (sets told 0) (numbers ∙ b) in
+        let says = tells (fillNumbers (end .answer) (end .walk .tally .trials)) told (numbers ∙ b) tell in
         (λ i. reply ((is ∙ a) i) (lent i) (says i))
 
 -- ## The ways
 
 module _ (def s : List ℕ) (kind k : ℕ) (out told : List ℕ) {r : TakenDefinition} (e : r ≡ takenDefinition def) where
-  pub fill-no-definition : {status : ℕ} {told' : List ℕ} → r .«is_one» ≡ false → Replies status told' (λ lent. refuse 10 0 lent told)
-      → FillOwes def s kind k out told status out told'
+  pub fill-no-definition : {a : ℕ} → r .«is_one» ≡ false → a ≡ packed 10 0 0 → FillOwes def s kind k out told a out told
   unfolding fillOf
-  fill-no-definition f h = h out ∙ simp (not-taken def e f)
+  fill-no-definition f h = refuses out told h ∙ simp (not-taken def e f)
 
   module _ (t : r .«is_one» ≡ true) {which : SortFor} (g : which ≡ sortFor kind) where
     by-sort : fillBy which (r .definition) s k out told ≡ fillOf def s kind k out told
     unfolding fillOf
     by-sort = simp (g, taken def e t .1, taken def e t .0)
 
-    pub fill-no-kind : {status : ℕ} {told' : List ℕ} → which .«is_one» ≡ false → Replies status told' (λ lent. refuse 10 0 lent told)
-        → FillOwes def s kind k out told status out told'
+    pub fill-no-kind : {a : ℕ} → which .«is_one» ≡ false → a ≡ packed 10 0 0 → FillOwes def s kind k out told a out told
     unfolding fillBy
-    fill-no-kind f h = let no : refuse 10 0 out told ≡ fillBy which (r .definition) s k out told = simp f in h out ∙ no ∙ by-sort
+    fill-no-kind f h = let no : refuse 10 0 out told ≡ fillBy which (r .definition) s k out told = simp f in refuses out told h ∙ no ∙ by-sort
 
     module _ (u : which .«is_one» ≡ true) {w : Walk} (first : w ≡ start) {v : Check} (verdict : v ≡ checked (r .definition) w (length s) (length out / 4)) where
+      found : Outcome
+      found = walked (Frame (which .sort) k) (r .definition) s start
+
       judged : Check → Reply
-      judged y = checkedFill y (walked (Frame (which .sort) k) (r .definition) s start) out told
+      judged y = checkedFill y found out told
 
       by-check : judged v ≡ fillOf def s kind k out told
-      unfolding fillBy judged
+      unfolding fillBy judged found
       by-check =
           let one : judged (checked (r .definition) start (length s) (length out / 4)) ≡ fillBy which (r .definition) s k out told = simp u in
           ap judged (verdict ∙ ap (λ x. checked (r .definition) x (length s) (length out / 4)) first) ∙ one ∙ by-sort
 
-      pub fill-refused : {why : Refusal} {status : ℕ} {told' : List ℕ} → v ≡ Refused why → Replies status told' (λ lent. refusing why 4 lent told)
-          → FillOwes def s kind k out told status out told'
+      pub fill-refused : {why : Refusal} {a : ℕ} → v ≡ Refused why → a ≡ packedBy why 4 → FillOwes def s kind k out told a out told
       unfolding checkedFill judged
-      fill-refused is h = h out ∙ ap judged (sym is) ∙ by-check
+      fill-refused is h = refuses out told h ∙ ap judged (sym is) ∙ by-check
 
-      pub fill-given : (buf : List ℕ) → length buf ≡ 62 → (x : Looked) {after : List ℕ} → v ≡ Pass → walks.FillOwes (r .definition) s (which .sort) k buf x after
-          → {n status : ℕ} {out' xs told' : List ℕ} → n ≡ handsOut (r .definition) (x .answer) → out' ≡ sets out 0 (words (take n after))
-          → xs ≡ padded 8 (paperOf (x .answer) .values) → told' ≡ sets told 0 xs → status ≡ paperOf (x .answer) .number
-          → FillOwes def s kind k out told status out' told'
-      unfolding checkedFill judged
-      fill-given buf l x pass fills n put numbers tell is =
-          let d = r .definition in
-          let sane = is-sound d w (length s) (length out / 4) verdict pass in
-          let enough = ap (λ y. checked d y (length s) 62) (sym first) ∙ inner-passes d w (length s) (length out / 4) verdict pass in
-          values-given d s (which .sort) k sane enough buf l x fills out told n put numbers tell is ∙ ap judged (sym pass) ∙ by-check
+      module _ (pass : v ≡ Pass) where
+        by-room : ifRoom (filled found out told) out told ≡ fillOf def s kind k out told
+        unfolding checkedFill judged
+        by-room = ap judged (sym pass) ∙ by-check
+
+        pub fill-untold : {a : ℕ} → length told < toldLength → a ≡ packed 11 toldLength 0 → FillOwes def s kind k out told a out told
+        fill-untold h i = room-short (filled found out told) out told h i ∙ by-room
+
+        pub fill-given : toldLength ≤ length told → (buf : List ℕ) → length buf ≡ 62 → (x : Looked) {after : List ℕ}
+            → walks.FillOwes (r .definition) s (which .sort) k buf x after
+            → {n a : ℕ} {out' xs told' : List ℕ} → n ≡ handsOut (r .definition) (x .answer) → out' ≡ sets out 0 (words (take n after))
+            → xs ≡ padded 8 (fillNumbers (x .answer) (x .trials)) → told' ≡ sets told 0 (longs xs) → a ≡ paperOf (x .answer) .number
+            → FillOwes def s kind k out told a out' told'
+        unfolding found
+        fill-given h buf l x fills n put numbers tell is =
+            let d = r .definition in
+            let sane = is-sound d w (length s) (length out / 4) verdict pass in
+            let enough = ap (λ y. checked d y (length s) 62) (sym first) ∙ inner-passes d w (length s) (length out / 4) verdict pass in
+            values-given d s (which .sort) k sane enough buf l x fills out told n put numbers tell is ∙ room-there (filled found out told) out told h ∙ by-room

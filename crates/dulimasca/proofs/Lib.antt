@@ -2,9 +2,13 @@ pub mod Counting
 pub mod Defining
 pub mod Filling
 pub mod Giving
+pub mod Hearing
 pub mod Naming
 pub mod Needing
 pub mod One
+pub mod Packing
 pub mod Replying
+pub mod Statuses
+pub mod Strict
 pub mod Taken
 pub mod TakenState

@@ -1,11 +1,9 @@
--- The length that the refusal of a check names: no more than what is needed of an admitted walk.
-use Prim.Native.Nat.{ℕ, _≤_}
+-- The length that the refusal of a check names, no more than what is needed of an admitted walk.
+use Prim.Native.Nat.{ℕ, _<_, _≤_}
 use mathlib.Core.Bool.{Bool, true, false, cond}
-use mathlib.Core.List.{List}
 use mathlib.Core.Path.{_≡_, refl, sym, ap, _∙_}
 use native.Mathlib.Omega.{arith}
 use lib.Dec.{leb}
-use lib.ListN.{length}
 use Rattle.plan.specs.declared.Definition.{Definition}
 use Rattle.section.specs.declared.Check.{Check}
 use Rattle.section.specs.declared.Check.the-variants.{Pass, Refused}
@@ -14,8 +12,7 @@ use Rattle.section.specs.declared.Refusal.the-variants.{Unsound, TooShort}
 use Rattle.section.specs.declared.Walk.{Walk}
 use Rattle.section.specs.Refusals.{admitted, needed, checked}
 use Rattle.section.proofs.Admitted.{admitted-sound, needed-rooms}
-use Rattle.rows.specs.declared.Laid.{Laid}
-use Rattle.rows.specs.Rows.{Rows, Told, rowLength, checkedRows, laid, laidOut, checkedFirst, nextRows}
+use Rattle.rows.specs.Rows.{rowLength, checkedRows}
 use Rattle.rows.proofs.OneRow.{width-few}
 use Rattle.dulimasca.specs.Told.{neededBy}
 
@@ -48,13 +45,6 @@ row-length-few : (d : Definition) → rowLength d ≤ 272
 unfolding rowLength
 row-length-few d = omega (arith, width-few d)
 
-check-is : (v : Check) (x : Rows) (w : Walk) (out : List ℕ) → checkedFirst v x w out .check ≡ v
-unfolding checkedFirst laidOut
-check-is Pass x w out = refl
-check-is (Refused why) x w out = refl
-
-pub row-named : (d : Definition) (s : List ℕ) (w : Walk) (out : List ℕ) (r : Laid) {after : List ℕ} {why : Refusal} → laid r after ≡ nextRows d s w out → r .check ≡ Refused why
-    → neededBy why ≤ 272
-unfolding nextRows checkedRows
-row-named d s w out r e is =
-    named-few (admitted d (length s) w) (leb (rowLength d) (length out)) (sym is ∙ ap (λ (x : Told). x .check) e ∙ check-is _ _ w out) (λ _. row-length-few d)
+pub row-named : (d : Definition) (w : Walk) (z room : ℕ) {v : Check} {why : Refusal} → v ≡ checkedRows d w z room → v ≡ Refused why → neededBy why ≤ 272
+unfolding checkedRows
+row-named d w z room verdict is = named-few (admitted d z w) (leb (rowLength d) room) (sym is ∙ verdict) (λ _. row-length-few d)

@@ -1,11 +1,11 @@
--- What C is told: a status, which is a refusal's own number in document 01's table, and eight numbers in a lent array.
-use Prim.Native.Nat.{ℕ, _*_}
+-- What C is told: one number, below 256 a status and from 256 on a refusal, and beside a status eight numbers in lent bytes.
+use Prim.Native.Nat.{ℕ, _+_, _*_, min}
 use mathlib.Core.List.{List, [], _∷_}
-use mathlib.Core.Path.{_≡_}
 use mathlib.Core.Bool.{true, false, cond}
-use lib.Dec.{eqb}
-use lib.ListN.{getD}
+use lib.Dec.{eqb, leb}
+use lib.ListN.{length, getD, drop}
 use lib.Seq.{sets}
+use Rattle.bytes.specs.Bytes.{longs, num64}
 use Rattle.items.specs.declared.Stretch.{Stretch}
 use Rattle.items.specs.declared.Stretch.the-variants as stretch
 use Rattle.names.specs.declared.Kind.the-variants as kind
@@ -19,40 +19,63 @@ use Rattle.walks.specs.declared.Sort.the-variants as sort
 use Rattle.dulimasca.specs.declared.log.KindFor.{KindFor}
 use Rattle.dulimasca.specs.declared.walking.SortFor.{SortFor}
 
--- a function's answer: its status, a lent byte buffer's content, and the numbers' array
+-- ## A refusal in one number
+
+-- 2^48 - 1: a place that is further off is told as this one
+abbrev pub mostPlace : ℕ
+mostPlace = 281474976710655
+
+-- Its number in document 01's table in the lowest byte, its round and 1 in the next, its place above: 256 or more. Only refusal 3 has a round, the others 0.
+unfoldable pub packed : (number place round : ℕ) → ℕ
+packed number place round = number + 256 * (round + 1) + 65536 * min place mostPlace
+
+-- ## What is told beside a status
+
+abbrev pub toldLength : ℕ
+toldLength = 64
+
+-- eight numbers, 0 where there is nothing to tell; bytes behind them keep their content
+unfoldable pub telling : (numbers told : List ℕ) → List ℕ
+telling numbers told = sets told 0 (longs (padded 8 numbers))
+
+-- and the number at a place of them, from 0, as a host reads it
+unfoldable pub numberTold : (i : ℕ) → (told : List ℕ) → ℕ
+numberTold i told = num64 (drop (8 * i) told)
+
+-- ## A function's answer
+
+-- its number, and what the lent buffer and the bytes for the numbers hold
 pub record Reply : Type 0 where
-  pub status : ℕ
+  pub answer : ℕ
   pub lent : List ℕ
   pub told : List ℕ
 
-abbrev pub reply : (status : ℕ) → (lent told : List ℕ) → Reply
-reply status lent told = record { status = status; lent = lent; told = told }
+abbrev pub reply : (answer : ℕ) → (lent told : List ℕ) → Reply
+reply answer lent told = record { answer = answer; lent = lent; told = told }
 
--- what an inner function answers, whatever byte buffer was lent beside the numbers' array
-abbrev pub Replies : (status : ℕ) → (told : List ℕ) → (List ℕ → Reply) → Type 0
-Replies status told by = (lent : List ℕ) → reply status lent told ≡ by lent
-
--- eight numbers, 0 where there is nothing to tell; a shorter array gets the first of them
-unfoldable pub telling : (numbers told : List ℕ) → List ℕ
-telling numbers told = sets told 0 (padded 8 numbers)
-
--- a refusal tells its place, and writes nothing else
-unfoldable pub refuse : (number place : ℕ) → (lent told : List ℕ) → Reply
-refuse number place lent told = reply number lent (telling (place ∷ []) told)
+-- A REFUSAL WRITES NOTHING
+abbrev pub refuse : (number place : ℕ) → (lent told : List ℕ) → Reply
+refuse number place lent told = reply (packed number place 0) lent told
 
 -- bytes that are no definition or no state, a kind that there is not: refusal 10
 abbrev pub refuse10 : (lent told : List ℕ) → Reply
 refuse10 lent told = refuse 10 0 lent told
+
+-- an answer, where the numbers have room: it is looked for behind that of every other buffer (11)
+unfoldable pub ifRoom : Reply → (lent told : List ℕ) → Reply
+ifRoom r lent told = cond (leb toldLength (length told)) r (refuse 11 toldLength lent told)
 
 -- the needed length that a refusal names
 unfoldable pub neededBy : Refusal → ℕ
 neededBy Unsound = 0
 neededBy (TooShort n) = n
 
--- a walk's refusals; a needed length is one in bytes, of which a place of the buffer takes so many
-unfoldable pub refusing : Refusal → (bytes : ℕ) → (lent told : List ℕ) → Reply
-refusing Unsound b lent told = refuse10 lent told
-refusing (TooShort n) b lent told = refuse 11 (b * n) lent told
+-- a walk's refusal; a needed length is one in bytes, of which a place of the buffer takes so many
+unfoldable pub packedBy : Refusal → (bytes : ℕ) → ℕ
+packedBy Unsound b = packed 10 0 0
+packedBy (TooShort n) b = packed 11 (b * n) 0
+
+-- ## Statuses and numbers
 
 -- 0: there may be more; 1 out of data; 2 cut; 3 done
 unfoldable pub statusBy : Ending → ℕ

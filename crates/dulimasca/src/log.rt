@@ -1,43 +1,37 @@
-// A log's definition, from its `H` lines into bytes that C keeps; and where the names of its fields stand.
+// A log's settings and its definition, from its `H` lines into bytes that C keeps; and where the names of its fields stand.
 ghost use mathlib.Core.Path.{_≡_};
 ghost use Rattle.reader.specs.Place.{padded};
-ghost use Rattle.store.specs.Definition.{numberOf};
-ghost use Rattle.dulimasca.specs.Define.{numbersOf, aboutLog};
-ghost use Rattle.dulimasca.specs.Owes.{DefineOwes, NameOwes};
+ghost use Rattle.dulimasca.specs.Define.{aboutLog};
+ghost use Rattle.dulimasca.specs.Owes.{SettingsOwes, DefineOwes, NameOwes};
 ghost use Rattle.dulimasca.specs.Told.{stretchStart, stretchEnd, kindFor};
-use crate::telling::only;
+use crate::telling::TOLD;
 use crate::telling::refuse;
 use crate::telling::tell;
-use crate::telling::two;
 use definition::Verdict;
 use header::Header;
 use items::Stretch;
 use names::Kind;
 use plan::Definition;
-use plan::FrameInterval;
-use plan::HeaderNumber;
-use plan::Numbers;
+use plan::Settings;
+use settings::stored::SETTINGS;
 use store::DEFINITION;
 
-// Over 65535: absent.
-fn header_number(code: u32) -> HeaderNumber
-    ensures { λ r. ⌜ r ≡ numberOf code ⌝ }
-{
-    if code < 65536 {
-        HeaderNumber::Given(code as u16)
-    } else {
-        HeaderNumber::Absent
-    }
-}
+// The status of a name that is not there.
+const NO_NAME: u64 = 4;
 
-fn header_numbers(min_throttle: u32, vbat_reference: u32, min_motor: u32) -> Numbers
-    ensures { λ r. ⌜ r ≡ numbersOf «min_throttle» «vbat_reference» «min_motor» ⌝ }
+// 0, and in `buf` the settings that the log's own header lines say; or refusal 11.
+#[no_mangle]
+pub extern "C" fn dulimasca_settings(log: &[u8], buf: &mut [u8]) -> u64
+    ensures { λ r. ⌜ SettingsOwes (now (log .entry)) (now (buf .entry)) r (now (buf .exit)) ⌝ }
 {
-    Numbers {
-        min_throttle: header_number(min_throttle),
-        vbat_reference: header_number(vbat_reference),
-        min_motor: header_number(min_motor),
+    if buf.len() < SETTINGS {
+        return refuse(11, SETTINGS, 0);
     }
+    let said = settings::read(log);
+    let numbers = said.numbers;
+    let interval = said.interval;
+    settings::stored::put(buf, numbers, Settings { interval });
+    0
 }
 
 fn stretch_start(stretch: Stretch) -> usize
@@ -79,31 +73,30 @@ fn about_log(head: Header, d: Definition) -> [u64; 8]
 }
 
 // 0, the definition in `buf`, and in `told`: where the section begins, the items of the main and the slow lists,
-// where the main names begin and end, where the slow ones do, and the length of a row. Or refusal 1 to 9 or 11: place, and round.
+// where the main names begin and end, where the slow ones do, and the length of a row. Or a refusal, 1 to 11.
 #[no_mangle]
 pub extern "C" fn dulimasca_define(
     log: &[u8],
-    min_throttle: u32,
-    vbat_reference: u32,
-    min_motor: u32,
-    numerator: u32,
-    denominator: u32,
+    chosen: &[u8],
     buf: &mut [u8],
-    told: &mut [u64],
+    told: &mut [u8],
 ) -> u64
-    ensures { λ r. ⌜ DefineOwes (now (log .entry)) «min_throttle» «vbat_reference» «min_motor» numerator denominator (now (buf .entry)) (now (told .entry)) r (now (buf .exit)) (now (told .exit)) ⌝ }
+    ensures { λ r. ⌜ DefineOwes (now (log .entry)) (now (chosen .entry)) (now (buf .entry)) (now (told .entry)) r (now (buf .exit)) (now (told .exit)) ⌝ }
 {
+    if !settings::stored::are_settings(chosen) {
+        return refuse(10, 0, 0);
+    }
     if buf.len() < DEFINITION {
-        return refuse(11, DEFINITION, told);
+        return refuse(11, DEFINITION, 0);
+    }
+    if told.len() < TOLD {
+        return refuse(11, TOLD, 0);
     }
     let head = header::read(log);
     let lists = head.lists;
-    let numbers = header_numbers(min_throttle, vbat_reference, min_motor);
-    let interval = FrameInterval {
-        numerator,
-        denominator,
-    };
-    let defined = definition::define(log, lists, numbers, interval);
+    let numbers = settings::stored::numbers_in(chosen);
+    let rest = settings::stored::settings_in(chosen);
+    let defined = definition::define(log, lists, numbers, rest);
     let verdict = defined.verdict;
     match verdict {
         Verdict::Pass => {
@@ -114,7 +107,7 @@ pub extern "C" fn dulimasca_define(
         }
         Verdict::Refused(why) => {
             let paper = why.paper();
-            two(paper.number as u64, paper.place, paper.round, told)
+            refuse(paper.number as u64, paper.place, paper.round)
         }
     }
 }
@@ -144,7 +137,7 @@ fn kind_for(number: u32) -> KindFor
     }
 }
 
-// 0, and where the name of field `k` begins and ends in the list of its kind (0 main, 1 slow), both lists being lent; 1 if there is none; or 10.
+// 0, and where the name of field `k` begins and ends in the list of its kind (0 main, 1 slow), both lists being lent; 4 if there is none; or refusal 10 or 11.
 #[no_mangle]
 pub extern "C" fn dulimasca_name(
     def: &[u8],
@@ -152,23 +145,32 @@ pub extern "C" fn dulimasca_name(
     main: &[u8],
     slow: &[u8],
     k: usize,
-    told: &mut [u64],
+    told: &mut [u8],
 ) -> u64
     ensures { λ r. ⌜ NameOwes (now (def .entry)) kind (now (main .entry)) (now (slow .entry)) k (now (told .entry)) r (now (told .exit)) ⌝ }
 {
     let taken = store::def::take(def);
     if !taken.is_one {
-        return refuse(10, 0, told);
+        return refuse(10, 0, 0);
     }
     let which = kind_for(kind);
     if !which.is_one {
-        return refuse(10, 0, told);
+        return refuse(10, 0, 0);
+    }
+    if told.len() < TOLD {
+        return refuse(11, TOLD, 0);
     }
     let d = taken.definition;
     let of = which.kind;
     let stretch = names::name_at(d, of, main, slow, k);
     match stretch {
-        Stretch::At(start, end) => two(0, start, end, told),
-        Stretch::Absent => only(1, told),
+        Stretch::At(start, end) => {
+            tell([start as u64, end as u64, 0, 0, 0, 0, 0, 0], told);
+            0
+        }
+        Stretch::Absent => {
+            tell([0, 0, 0, 0, 0, 0, 0, 0], told);
+            NO_NAME
+        }
     }
 }

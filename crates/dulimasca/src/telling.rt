@@ -1,16 +1,25 @@
-// What C is told beside the status: eight numbers, 0 where there is nothing to tell.
+// What C is told: a refusal in one number; or, beside a status, eight numbers, 0 where there is nothing to tell.
 ghost use mathlib.Core.List.{[], _∷_, _++_};
 ghost use mathlib.Core.Path.{_≡_};
-ghost use Prim.Native.Nat.{_*_, _<_, _^_, min};
+ghost use Prim.Native.Nat.{_*_, _<_, _≤_, _^_, min};
+ghost use lib.ListN.{length};
 ghost use lib.Seq.{sets};
 ghost use Rattle.reader.specs.Place.{padded};
+ghost use Rattle.bytes.specs.Bytes.{longs};
 ghost use Rattle.section.specs.Answers.{paperOf};
 ghost use Rattle.section.specs.declared.Answer.the-variants.{Over, Refused};
-ghost use Rattle.dulimasca.specs.Told.{Replies, reply, telling, refuse, refusing, neededBy, statusBy, placeBy, tallyNumbers};
+ghost use Rattle.dulimasca.specs.Told.{packed, packedBy, neededBy, toldLength, statusBy, placeBy, tallyNumbers};
+ghost use Rattle.dulimasca.specs.Calls.{fillNumbers};
 use section::Answer;
 use section::Ending;
 use section::Refusal;
 use section::Tally;
+
+// Bytes for the numbers.
+pub(crate) const TOLD: usize = 64;
+
+// 2^48 - 1: a place that is further off is told as this one.
+const MOST_PLACE: usize = 281474976710655;
 
 fn lesser(a: usize, b: usize) -> usize
     ensures { λ r. ⌜ r ≡ min a b ⌝ }
@@ -18,51 +27,32 @@ fn lesser(a: usize, b: usize) -> usize
     if a < b { a } else { b }
 }
 
-// A shorter array gets the first numbers.
-pub(crate) fn tell(numbers: [u64; 8], told: &mut [u64])
-    ensures { λ _. ⌜ now (told .exit) ≡ sets (now (told .entry)) 0 numbers ⌝ }
+// A refusal in one number: its own, its round and its place.
+pub(crate) fn refuse(number: u64, place: usize, round: usize) -> u64
+    requires { ⌜ (number < 256) × (round < 255) ⌝ }
+    ensures { λ r. ⌜ r ≡ packed number place round ⌝ }
 {
-    let n = lesser(8, told.len());
-    let mut i: usize = 0;
-    while i < n {
-        told[i] = numbers[i];
-        i += 1;
-    }
-}
-
-// Tells nothing but a status.
-pub(crate) fn only(status: u64, told: &mut [u64]) -> u64
-    ensures { λ r. ⌜ Replies r (now (told .exit)) (λ lent. reply status lent (telling [] (now (told .entry)))) ⌝ }
-{
-    tell([0, 0, 0, 0, 0, 0, 0, 0], told);
-    status
-}
-
-// Tells two numbers.
-pub(crate) fn two(status: u64, first: usize, second: usize, told: &mut [u64]) -> u64
-    ensures { λ r. ⌜ Replies r (now (told .exit)) (λ lent. reply status lent (telling (first ∷ second ∷ []) (now (told .entry)))) ⌝ }
-{
-    tell([first as u64, second as u64, 0, 0, 0, 0, 0, 0], told);
-    status
-}
-
-// A refusal by its number, and its place.
-pub(crate) fn refuse(number: u64, place: usize, told: &mut [u64]) -> u64
-    ensures { λ r. ⌜ Replies r (now (told .exit)) (λ lent. refuse number place lent (now (told .entry))) ⌝ }
-{
-    tell([place as u64, 0, 0, 0, 0, 0, 0, 0], told);
-    number
+    let near = lesser(place, MOST_PLACE);
+    number + 256 * (round as u64 + 1) + 65536 * near as u64
 }
 
 // A walk's refusal; a needed length is told in bytes, of which each place takes so many.
-pub(crate) fn refusing(why: Refusal, bytes: usize, told: &mut [u64]) -> u64
+pub(crate) fn refusing(why: Refusal, bytes: usize) -> u64
     requires { ⌜ bytes * neededBy why < 2 ^ 64 ⌝ }
-    ensures { λ r. ⌜ Replies r (now (told .exit)) (λ lent. refusing why bytes lent (now (told .entry))) ⌝ }
+    ensures { λ r. ⌜ r ≡ packedBy why bytes ⌝ }
 {
     match why {
-        Refusal::Unsound => refuse(10, 0, told),
-        Refusal::TooShort(n) => refuse(11, bytes * n, told),
+        Refusal::Unsound => refuse(10, 0, 0),
+        Refusal::TooShort(n) => refuse(11, bytes * n, 0),
     }
+}
+
+// Eight numbers, low byte first.
+pub(crate) fn tell(numbers: [u64; 8], told: &mut [u8])
+    requires { ⌜ toldLength ≤ length (now told) ⌝ }
+    ensures { λ _. ⌜ now (told .exit) ≡ sets (now (told .entry)) 0 (longs numbers) ⌝ }
+{
+    bytes::put_longs(told, 0, &numbers);
 }
 
 pub(crate) fn status_by(ending: Ending) -> u64
@@ -142,51 +132,71 @@ pub(crate) fn number(answer: Answer) -> u64
     }
 }
 
-fn values_of_ending(ending: Ending) -> [u64; 8]
-    ensures { λ r. ⌜ r ≡ padded 8 (paperOf (Over ending) .values) ⌝ }
+// What `dulimasca_fill` tells of an answer: its values in document 01, and behind them the trials.
+fn numbers_of_ending(ending: Ending, trials: u64) -> [u64; 8]
+    ensures { λ r. ⌜ r ≡ padded 8 (fillNumbers (Over ending) trials) ⌝ }
 {
     match ending {
-        Ending::Going => [0, 0, 0, 0, 0, 0, 0, 0],
-        Ending::Out => [0, 0, 0, 0, 0, 0, 0, 0],
-        Ending::Cut(kind, place) => { [store::state::letter(kind), place as u64, 0, 0, 0, 0, 0, 0] }
-        Ending::Done => [0, 0, 0, 0, 0, 0, 0, 0],
-    }
-}
-
-fn values_of_refusal(why: Refusal) -> [u64; 8]
-    ensures { λ r. ⌜ r ≡ padded 8 (paperOf (Refused why) .values) ⌝ }
-{
-    match why {
-        Refusal::Unsound => [0, 0, 0, 0, 0, 0, 0, 0],
-        Refusal::TooShort(n) => [n as u64, 0, 0, 0, 0, 0, 0, 0],
-    }
-}
-
-// An answer's values in document 01.
-pub(crate) fn values(answer: Answer) -> [u64; 8]
-    ensures { λ r. ⌜ r ≡ padded 8 (paperOf answer .values) ⌝ }
-{
-    match answer {
-        Answer::Passed => [0, 0, 0, 0, 0, 0, 0, 0],
-        Answer::Rejected(kind, place) => {
-            [store::state::letter(kind), place as u64, 0, 0, 0, 0, 0, 0]
-        }
-        Answer::Event(x) => {
+        Ending::Going => [0, 0, 0, trials, 0, 0, 0, 0],
+        Ending::Out => [0, 0, 0, trials, 0, 0, 0, 0],
+        Ending::Cut(kind, place) => {
             [
-                x.at as u64,
-                x.event.code as u64,
-                x.event.first as u64,
-                x.event.second as u64,
+                store::state::letter(kind),
+                place as u64,
+                0,
+                trials,
                 0,
                 0,
                 0,
                 0,
             ]
         }
-        Answer::Intra(x) => [x.at as u64, x.iteration as u64, x.time, 0, 0, 0, 0, 0],
-        Answer::Inter(x) => [x.at as u64, x.iteration as u64, x.time, 0, 0, 0, 0, 0],
-        Answer::Slow(x) => [x.at as u64, 0, 0, 0, 0, 0, 0, 0],
-        Answer::Over(ending) => values_of_ending(ending),
-        Answer::Refused(why) => values_of_refusal(why),
+        Ending::Done => [0, 0, 0, trials, 0, 0, 0, 0],
+    }
+}
+
+fn numbers_of_refusal(why: Refusal, trials: u64) -> [u64; 8]
+    ensures { λ r. ⌜ r ≡ padded 8 (fillNumbers (Refused why) trials) ⌝ }
+{
+    match why {
+        Refusal::Unsound => [0, 0, 0, trials, 0, 0, 0, 0],
+        Refusal::TooShort(n) => [n as u64, 0, 0, trials, 0, 0, 0, 0],
+    }
+}
+
+pub(crate) fn fill_numbers(answer: Answer, trials: u64) -> [u64; 8]
+    ensures { λ r. ⌜ r ≡ padded 8 (fillNumbers answer trials) ⌝ }
+{
+    match answer {
+        Answer::Passed => [0, 0, 0, trials, 0, 0, 0, 0],
+        Answer::Rejected(kind, place) => {
+            [
+                store::state::letter(kind),
+                place as u64,
+                0,
+                trials,
+                0,
+                0,
+                0,
+                0,
+            ]
+        }
+        Answer::Event(x) => {
+            [
+                x.at as u64,
+                x.event.code as u64,
+                x.event.first as u64,
+                trials,
+                0,
+                0,
+                0,
+                0,
+            ]
+        }
+        Answer::Intra(x) => [x.at as u64, x.iteration as u64, x.time, trials, 0, 0, 0, 0],
+        Answer::Inter(x) => [x.at as u64, x.iteration as u64, x.time, trials, 0, 0, 0, 0],
+        Answer::Slow(x) => [x.at as u64, 0, 0, trials, 0, 0, 0, 0],
+        Answer::Over(ending) => numbers_of_ending(ending, trials),
+        Answer::Refused(why) => numbers_of_refusal(why, trials),
     }
 }

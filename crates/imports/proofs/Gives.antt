@@ -3,15 +3,14 @@ use Prim.Native.Nat.{ℕ, _+_, _*_, _/_, _<_, _≤_}
 use mathlib.Core.Bool.{Bool, true, false, cond, false≢true}
 use mathlib.Core.List.{List, [], _∷_, _++_}
 use mathlib.Core.Path.{_≡_, refl, sym, ap, _∙_, subst}
-use native.Mathlib.Nat.{mul-le-mul-right, div-mul-le-self, div-eq-of-lt, zero-mul}
+use native.Mathlib.Nat.{mul-le-mul-right, div-mul-le-self, div-eq-of-lt}
 use native.Mathlib.Omega.{arith}
 use lib.Dec.{leb}
-use lib.ListN.{length, getD, take, drop, replicate, List·getD-append}
-use lib.Seq.{sets, sets-eq, length-sets, take-at}
-use borrow.Author.Tests.{leb-true, leb-false}
+use lib.ListN.{length, getD, take, drop, length-take}
+use lib.Seq.{sets, sets-eq, take-at}
+use borrow.Author.Tests.{lt-ltb, le-ltb, le-leb, leb-true, leb-false}
 use Rattle.bits.proofs.Laws.{by-test}
 use Rattle.plan.specs.declared.Definition.{Definition}
-use Rattle.reader.specs.Place.{padded}
 use Rattle.section.specs.declared.Check.{Check}
 use Rattle.section.specs.declared.Check.the-variants.{Pass, Refused}
 use Rattle.section.specs.declared.Refusal.the-variants.{TooShort, Unsound}
@@ -23,26 +22,17 @@ use Rattle.store.specs.Definition.{isDefinition, definitionAt}
 use Rattle.store.specs.State.{isState, walkAt}
 use Rattle.store.proofs.KeptState.{stored-walk, stored-is-state}
 use Rattle.store.proofs.States.{state-short}
-use Rattle.rows.specs.Rows.{rowLength, rowsFrom, joined, checkedRows, laidOut, checkedFirst, nextRows}
-use Rattle.rows.proofs.Cut.{rows-few, rows-long}
+use Rattle.rows.specs.Rows.{rowLength, rowsFrom, allRows, joined, checkedRows, laidOut, checkedFirst, nextRows}
+use Rattle.rows.proofs.Cut.{rows-few, rows-long, rows-taken}
 use Rattle.rows.proofs.Turns.{rows-by}
-use Rattle.dulimasca.specs.Calls.{RowsReply, rowsReply, rowsBy, rowsOf}
+use Rattle.dulimasca.specs.Calls.{RowsReply, rowsReply, checkedReply, rowsBy, rowsOf}
+use Rattle.dulimasca.specs.Told.{packed, packedBy, toldLength, numberTold, tallyNumbers}
+use Rattle.dulimasca.proofs.Hearing.{telling-long, told-number}
+use Rattle.dulimasca.proofs.Packing.{refused-from-256}
+use Rattle.dulimasca.proofs.Strict.{status-small}
 use Rattle.imports.specs.Imports.{written}
-use Rattle.dulimasca.specs.Told.{telling, tallyNumbers, refuse, refusing}
 
 -- ## What is read out of what was lent
-
--- of eight numbers told, the seventh
-told-rows : (numbers told : List ℕ) → 8 ≤ length told → getD (telling numbers told) 6 0 ≡ getD (padded 8 numbers) 6 0
-unfolding telling
-told-rows numbers told h =
-    let xs = padded 8 numbers in
-    let n : length xs ≡ 8 = length-sets (replicate 8 0) 0 numbers in
-    ap (λ (l : List ℕ). getD l 6 0) (sets-eq xs told 0 (omega arith)) ∙ List·getD-append xs (drop (0 + length xs) told) 0 6 (omega arith)
-
-telling-long : (numbers told : List ℕ) → length (telling numbers told) ≡ length told
-unfolding telling
-telling-long numbers told = length-sets told 0 (padded 8 numbers)
 
 -- what stands in front of a buffer is taken back
 take-back : (out bs : List ℕ) (k : ℕ) → length bs ≡ k → k ≤ length out → take k (sets out 0 bs) ≡ bs
@@ -55,7 +45,7 @@ state-long st is = by-long (leb 600 (length st)) refl
     by-long true t = leb-true 600 (length st) t
     by-long false t = absurd (false≢true (sym (state-short st (leb-false 600 (length st) t)) ∙ is))
 
--- a reply gives the next k rows of a walk, and the numbers' array back as long as it was
+-- a reply gives the next k rows of a walk, and the bytes for the numbers back as many as they were
 pub record Gives (d : Definition) (s told : List ℕ) (k : ℕ) (w : Walk) (r : RowsReply) : Type 0 where
   pub rows : written d r ≡ joined (rowsFrom d s k w .rows)
   pub walk : walkAt (r .state) ≡ rowsFrom d s k w .walk
@@ -69,7 +59,16 @@ module _ (d : Definition) (s : List ℕ) (bytes : (i : ℕ) → getD s i 0 < 256
       rows-by d s (λ k w x. Kept d s w → WalkSized w → WalkSized (x .walk)) (λ w h z. z) (λ k w e h z. called-sized d s bytes short w (h .so) z)
       (λ k w x e sized h z. sized (called-kept d s w h) (called-sized d s bytes short w (h .so) z))
 
-  module _ (st out told : List ℕ) (kept : Kept d s (walkAt st)) (sized : WalkSized (walkAt st)) (is : isState st ≡ true) (eight : 8 ≤ length told) where
+  -- no more rows than bytes, so that their number is one of 64 bits
+  rows-counted : (k : ℕ) (w : Walk) → length (rowsFrom d s k w .rows) < 18446744073709551616
+  unfolding allRows
+  rows-counted k w =
+      let few = rows-few d s (length s) w in
+      let most = length-take k (rowsFrom d s (length s) w .rows) in
+      rw (rows-taken d s w k) (omega arith)
+
+  module _ (st out told : List ℕ) (kept : Kept d s (walkAt st)) (sized : WalkSized (walkAt st)) (is : isState st ≡ true)
+      (told-room : toldLength ≤ length told) where
     abbrev w : Walk
     w = walkAt st
 
@@ -78,35 +77,52 @@ module _ (d : Definition) (s : List ℕ) (bytes : (i : ℕ) → getD s i 0 < 256
 
     -- the reply by the verdict
     abbrev by : Check → RowsReply
-    by c = let x = checkedFirst c (rowsFrom d s k w) w out in rowsReply (x .check) x st told
+    by c = checkedReply c (checkedFirst c (rowsFrom d s k w) w out) st out told
 
-    gives-full : Gives d s told k w (by Pass)
-    unfolding checkedFirst laidOut rowsReply written tallyNumbers
-    gives-full =
+    given : RowsReply
+    given = rowsReply (laidOut (rowsFrom d s k w) out) st told
+
+    there : given ≡ by Pass
+    unfolding checkedReply checkedFirst given
+    there = simp (le-leb toldLength (length told) told-room)
+
+    rows-written : written d given ≡ joined (rowsFrom d s k w .rows)
+    unfolding laidOut rowsReply written tallyNumbers given
+    rows-written =
         let x = rowsFrom d s k w in
-        let z = rows-sized k w kept sized in
         let n = length (x .rows) * rowLength d in
         let a : n ≤ k * rowLength d = mul-le-mul-right (rowLength d) (rows-few d s k w) in
         let b : k * rowLength d ≤ length out = div-mul-le-self (length out) (rowLength d) in
-        let seventh = told-rows (tallyNumbers (x .walk .tally) ++ (length (x .rows) ∷ [])) told eight in
-        record {
-          rows = ap (λ (c : ℕ). take (c * rowLength d) (sets out 0 (joined (x .rows)))) seventh ∙ take-back out (joined (x .rows)) n (rows-long d s k w) (omega arith);
+        let seventh = told-number (tallyNumbers (x .walk .tally) ++ (length (x .rows) ∷ [])) told 6 told-room (omega arith) (rows-counted k w) in
+        ap (λ q. cond q (take (numberTold 6 (given .told) * rowLength d) (given .out)) []) (lt-ltb (given .answer) 256 (status-small (x .walk .tally .ending)))
+        ∙ ap (λ (c : ℕ). take (c * rowLength d) (sets out 0 (joined (x .rows)))) seventh
+        ∙ take-back out (joined (x .rows)) n (rows-long d s k w) (omega arith)
+
+    gives-full : Gives d s told k w (by Pass)
+    unfolding laidOut rowsReply given
+    gives-full =
+        let x = rowsFrom d s k w in
+        let z = rows-sized k w kept sized in
+        subst (Gives d s told k w) there
+        (record {
+          rows = rows-written;
           walk = stored-walk (x .walk) st z (state-long st is);
           is = stored-is-state (x .walk) st z (state-long st is);
           long = telling-long (tallyNumbers (x .walk .tally) ++ (length (x .rows) ∷ [])) told;
-        }
+        })
 
     gives-none : length out < rowLength d → Gives d s told k w (by (Refused (TooShort (rowLength d))))
-    unfolding checkedFirst rowsReply refusing refuse written rowsFrom joined
+    unfolding checkedFirst checkedReply packedBy written rowsFrom joined
     gives-none h =
         let none : k ≡ 0 = div-eq-of-lt h in
+        let code = packed 11 (1 * rowLength d) 0 in
         record {
           rows =
-              ap (λ (c : ℕ). take (c * rowLength d) out) (told-rows (1 * rowLength d ∷ []) told eight) ∙ ap (λ (c : ℕ). take c out) (zero-mul (rowLength d))
+              ap (λ q. cond q (take (numberTold 6 told * rowLength d) out) []) (le-ltb code 256 (refused-from-256 11 (1 * rowLength d) 0))
               ∙ ap (λ (c : ℕ). joined (rowsFrom d s c w .rows)) (sym none);
           walk = ap (λ (c : ℕ). rowsFrom d s c w .walk) (sym none);
           is = is;
-          long = telling-long (1 * rowLength d ∷ []) told;
+          long = refl;
         }
 
     gives-by : Gives d s told k w (rowsBy d w st s out told)
@@ -114,12 +130,13 @@ module _ (d : Definition) (s : List ℕ) (bytes : (i : ℕ) → getD s i 0 < 256
     gives-by =
         let verdict : Bool → Check = λ q. cond q (cond (leb (rowLength d) (length out)) Pass (Refused (TooShort (rowLength d)))) (Refused Unsound) in
         subst (λ (q : Bool). Gives d s told k w (by (verdict q))) (sym (kept .so))
-        (by-test (λ (c : Check). Gives d s told k w (by c)) (leb (rowLength d) (length out)) (λ t. gives-full) (λ t. gives-none (leb-false (rowLength d) (length out) t)))
+        (by-test (λ (c : Check). Gives d s told k w (by c)) (leb (rowLength d) (length out)) (λ t. gives-full)
+        (λ t. gives-none (leb-false (rowLength d) (length out) t)))
 
 -- ONE CALL GIVES THE NEXT ROWS
 pub gives : (def s : List ℕ) (bytes : (i : ℕ) → getD s i 0 < 256) (short : length s < 18446744073709551616) (st out told : List ℕ) → isDefinition def ≡ true → isState st ≡ true →
-    8 ≤ length told → Kept (definitionAt def) s (walkAt st) → WalkSized (walkAt st) →
+    toldLength ≤ length told → Kept (definitionAt def) s (walkAt st) → WalkSized (walkAt st) →
     Gives (definitionAt def) s told (length out / rowLength (definitionAt def)) (walkAt st) (rowsOf def st s out told)
 unfolding rowsOf
-gives def s bytes short st out told is-def is eight kept sized =
-    rw (is-def, is) (gives-by (definitionAt def) s bytes short st out told kept sized is eight)
+gives def s bytes short st out told is-def is told-room kept sized =
+    rw (is-def, is) (gives-by (definitionAt def) s bytes short st out told kept sized is told-room)

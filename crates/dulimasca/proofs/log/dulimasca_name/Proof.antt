@@ -1,7 +1,7 @@
--- `log::dulimasca_name` meets its contract: no definition, no such kind, a name, none. Assumes nothing.
+-- `log::dulimasca_name` meets its contract: no definition, no such kind, no room for the numbers, a name, none. Assumes nothing.
 use borrow.Author.Needs.{needs}
 use borrow.Author.Tests.{not-true, not-false}
-use Rattle.dulimasca.proofs.Naming.{name-no-definition, name-no-kind, name-there, name-none}
+use Rattle.dulimasca.proofs.Naming.{name-no-definition, name-no-kind, name-untold, name-there, name-none}
 use Rattle.dulimasca.proofs.log.dulimasca_name.Statement.{statement}
 use Rattle.dulimasca.proofs.log.dulimasca_name.Tie as tie
 
@@ -11,35 +11,54 @@ dulimasca-name-spec =
     (tie.spec
     (λ c κs. search needs)
     (λ c κs. search needs)
+    (λ c.
+    let if1 = c .before in
+    let take = if1 .before .before in
+    name-no-definition _ _ _ _ _ _ (take .take .ensures) (not-true _ (if1 .if1 .taken)) (c .refuse .ensures))
+    (λ c κs. search needs)
+    (λ c κs. search needs)
+    (λ c.
+    let if2 = c .before in
+    let kind-for = if2 .before .before in
+    let if1 = kind-for .before in
+    let take = if1 .before .before in
+    name-no-kind _ _ _ _ _ _ (take .take .ensures) (not-false _ (if1 .if1 .left)) (kind-for .kind-for .ensures)
+    (not-true _ (if2 .if2 .taken)) (c .refuse2 .ensures))
+    (λ c κs. search needs)
+    (λ c.
+    let if3 = c .before in
+    let if2 = if3 .before in
+    let kind-for = if2 .before .before in
+    let if1 = kind-for .before in
+    let take = if1 .before .before in
+    name-untold _ _ _ _ _ _ (take .take .ensures) (not-false _ (if1 .if1 .left)) (kind-for .kind-for .ensures) (not-false _ (if2 .if2 .left))
+    (if3 .if3 .taken) (c .refuse3 .ensures))
+    (λ c κs. search needs)
+    (λ c. search needs)
+    (λ c κs. search needs)
+    (λ c. search needs)
+    (λ c κs. search needs)
     (λ c. search needs)
     (λ c.
-    let f = c .before .before .before .before in
-    name-no-definition _ _ _ _ _ _ (f .before .before .take .ensures) (not-true _ (f .if1 .taken)) (c .before .before .refuse .ensures))
-    (λ c κs. search needs)
-    (λ c κs. search needs)
+    let tell = c .before .before in
+    let stretch = tell .before .before .before in
+    let name-at = stretch .before .before in
+    let if3 = name-at .before .before in
+    let if2 = if3 .before in
+    let kind-for = if2 .before .before in
+    let if1 = kind-for .before in
+    let take = if1 .before .before in
+    name-there _ _ _ _ _ _ (take .take .ensures) (not-false _ (if1 .if1 .left)) (kind-for .kind-for .ensures) (not-false _ (if2 .if2 .left)) (if3 .if3 .left)
+    (name-at .name-at .ensures) (stretch .stretch .given .1) (tell .tell .ensures))
     (λ c. search needs)
     (λ c.
-    let g = c .before .before .before .before in
-    let f = g .before .before .before in
-    name-no-kind _ _ _ _ _ _ (f .before .before .take .ensures) (not-false _ (f .if1 .left)) (g .before .before .kind-for .ensures) (not-true _ (g .if2 .taken)) (c .before .before .refuse2 .ensures))
-    (λ c κs. search needs)
-    (λ c. search needs)
-    (λ c κs. search needs)
-    (λ c. search needs)
-    (λ c κs. search needs)
-    (λ c. search needs)
-    (λ c.
-    let s = c .before .before .before .before .before in
-    let n = s .before .before in
-    let g = n .before .before in
-    let f = g .before .before .before in
-    name-there _ _ _ _ _ _ (f .before .before .take .ensures) (not-false _ (f .if1 .left)) (g .before .before .kind-for .ensures) (not-false _ (g .if2 .left))
-    (n .name-at .ensures) (s .stretch .given .1) (c .before .before .two .ensures))
-    (λ c. search needs)
-    (λ c.
-    let s = c .before .before .before .before in
-    let n = s .before .before in
-    let g = n .before .before in
-    let f = g .before .before .before in
-    name-none _ _ _ _ _ _ (f .before .before .take .ensures) (not-false _ (f .if1 .left)) (g .before .before .kind-for .ensures) (not-false _ (g .if2 .left))
-    (n .name-at .ensures) (s .enum-told .given .1) (c .before .before .only .ensures)))
+    let tell2 = c .before .before in
+    let enum-told = tell2 .before .before in
+    let name-at = enum-told .before .before in
+    let if3 = name-at .before .before in
+    let if2 = if3 .before in
+    let kind-for = if2 .before .before in
+    let if1 = kind-for .before in
+    let take = if1 .before .before in
+    name-none _ _ _ _ _ _ (take .take .ensures) (not-false _ (if1 .if1 .left)) (kind-for .kind-for .ensures) (not-false _ (if2 .if2 .left)) (if3 .if3 .left)
+    (name-at .name-at .ensures) (enum-told .enum-told .given .1) (tell2 .tell2 .ensures)))
