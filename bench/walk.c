@@ -74,9 +74,9 @@ static void walk_by_rows(struct rows *rows, struct total *total)
 
 static void walk_by_count(const struct log *log, struct total *total)
 {
-    uint64_t told[DULIMASCA_TOLD];
-    dulimasca_count(log->definition, sizeof log->definition, log->section.text, log->section.length, told, DULIMASCA_TOLD);
-    total->frames += told[1] + told[2] + told[3];
+    uint8_t told[DULIMASCA_TOLD];
+    dulimasca_count(log->definition, sizeof log->definition, log->section.text, log->section.length, told, sizeof told);
+    total->frames += dulimasca_number(told, 1) + dulimasca_number(told, 2) + dulimasca_number(told, 3);
 }
 
 static int measure(const struct log *log, bool count, unsigned long walks)

@@ -1,10 +1,8 @@
 /* SQLite extension: a flight log as the virtual tables `flight` (main frames) and `flight_events` (slow frames and events), and flight_end(PATH).
- * A log is read and defined when its table is connected; a scan goes over the rows of its walk, from the first to the last. */
+ * A log is read and defined when its table is connected; a scan goes over the rows of its walk, from the first to the last. columns.c has the columns. */
 #include <string.h>
 
-#include <sqlite3ext.h>
-
-#include "log.h"
+#include "columns.h"
 
 SQLITE_EXTENSION_INIT1
 
@@ -17,16 +15,6 @@ void log_release(void *memory)
 {
     sqlite3_free(memory);
 }
-
-/* What the two tables differ in. The first columns are fixed; the fields of `kind` follow, from item `first_item` of its names. */
-struct shape {
-    const char *fixed[5];
-    size_t fixed_count;
-    uint32_t kind;
-    size_t first_item;
-    const char *letters;
-    void (*column)(sqlite3_context *context, const struct log *log, const uint8_t *row, size_t column);
-};
 
 struct table {
     sqlite3_vtab base;
@@ -46,143 +34,6 @@ static int fail_with(char **out, char *text)
     *out = text;
     return text != NULL ? SQLITE_ERROR : SQLITE_NOMEM;
 }
-
-/* Columns. */
-
-static size_t field_count(const struct table *table)
-{
-    return table->shape->kind == DULIMASCA_MAIN ? table->log.fields : table->log.slow_fields;
-}
-
-/* The name that the log gives an item; control characters, which no SQL text should have to carry, become `?`. */
-static char *item_name(const struct table *table, size_t item)
-{
-    struct stretch said = log_name(&table->log, table->shape->kind, item);
-    if (said.length == 0)
-        return sqlite3_mprintf("field_%llu", (unsigned long long)item);
-    char *name = sqlite3_malloc64(said.length + 1);
-    if (name == NULL)
-        return NULL;
-    for (size_t i = 0; i < said.length; i++)
-        name[i] = said.text[i] < 32 || said.text[i] == 127 ? '?' : (char)said.text[i];
-    name[said.length] = 0;
-    return name;
-}
-
-/* Column names in SQLite are equal without regard to case. */
-static bool is_taken(char *const *names, size_t count, const char *name)
-{
-    for (size_t i = 0; i < count; i++)
-        if (sqlite3_stricmp(names[i], name) == 0)
-            return true;
-    return false;
-}
-
-/* The name itself, or the first of NAME_2, NAME_3, .. that no earlier column has. Frees `name`. */
-static char *free_name(char *const *names, size_t count, char *name)
-{
-    char *candidate = name;
-    for (unsigned n = 2; candidate != NULL && is_taken(names, count, candidate); n++) {
-        if (candidate != name)
-            sqlite3_free(candidate);
-        candidate = sqlite3_mprintf("%s_%u", name, n);
-    }
-    if (candidate != name)
-        sqlite3_free(name);
-    return candidate;
-}
-
-static char *column_name(const struct table *table, char *const *names, size_t column)
-{
-    const struct shape *shape = table->shape;
-    if (column < shape->fixed_count)
-        return sqlite3_mprintf("%s", shape->fixed[column]);
-    return free_name(names, column, item_name(table, column - shape->fixed_count + shape->first_item));
-}
-
-#define MOST_COLUMNS (5 + DULIMASCA_FIELDS)
-
-/* CREATE TABLE with all columns, of which the first is the letter; NULL: no memory. */
-static char *table_text(sqlite3 *db, const struct table *table)
-{
-    char *names[MOST_COLUMNS];
-    size_t count = 0, all = table->shape->fixed_count + field_count(table);
-    sqlite3_str *text = sqlite3_str_new(db);
-    sqlite3_str_appendall(text, "CREATE TABLE x(");
-    for (; count < all; count++) {
-        names[count] = column_name(table, names, count);
-        if (names[count] == NULL)
-            break;
-        sqlite3_str_appendf(text, "%s\"%w\" %s", count > 0 ? "," : "", names[count], count > 0 ? "INTEGER" : "TEXT");
-    }
-    sqlite3_str_appendall(text, ")");
-    bool whole = count == all;
-    while (count > 0)
-        sqlite3_free(names[--count]);
-    char *sql = sqlite3_str_finish(text);
-    if (whole)
-        return sql;
-    sqlite3_free(sql);
-    return NULL;
-}
-
-/* SQLite's integers are signed: a time beyond them is given as its decimal digits. */
-static void result_unsigned(sqlite3_context *context, uint64_t number)
-{
-    if (number <= INT64_MAX) {
-        sqlite3_result_int64(context, (sqlite3_int64)number);
-        return;
-    }
-    char *digits = sqlite3_mprintf("%llu", (unsigned long long)number);
-    if (digits == NULL)
-        sqlite3_result_error_nomem(context);
-    else
-        sqlite3_result_text(context, digits, -1, sqlite3_free);
-}
-
-static void result_letter(sqlite3_context *context, const uint8_t *row)
-{
-    char letter = row_letter(row);
-    sqlite3_result_text(context, &letter, 1, SQLITE_TRANSIENT);
-}
-
-static void flight_column(sqlite3_context *context, const struct log *log, const uint8_t *row, size_t column)
-{
-    switch (column) {
-    case 0:
-        result_letter(context, row);
-        break;
-    case 1:
-        result_unsigned(context, row_place(row));
-        break;
-    case 2:
-        sqlite3_result_int64(context, row_iteration(row));
-        break;
-    case 3:
-        result_unsigned(context, row_time(row));
-        break;
-    default:
-        sqlite3_result_int64(context, row_value(log, row, column - 4));
-    }
-}
-
-/* An event's type and numbers, or a slow frame's fields; what a row does not have stays NULL. */
-static void events_column(sqlite3_context *context, const struct log *log, const uint8_t *row, size_t column)
-{
-    bool event = row_letter(row) == 'E';
-    if (column == 0)
-        result_letter(context, row);
-    else if (column == 1)
-        result_unsigned(context, row_place(row));
-    else if (column >= 5 && !event)
-        sqlite3_result_int64(context, row_value(log, row, column - 5));
-    else if (column < 5 && event && column - 2 <= event_numbers(row_value(log, row, 0)))
-        sqlite3_result_int64(context, row_value(log, row, column - 2));
-}
-
-/* A main list's first two items are loopIteration and time, which have columns of their own. */
-static const struct shape flight_shape = {{"kind", "place", "iteration", "time"}, 4, DULIMASCA_MAIN, 2, "IP", flight_column};
-static const struct shape events_shape = {{"kind", "place", "event", "first", "second"}, 5, DULIMASCA_SLOW, 0, "SE", events_column};
 
 /* Connecting. */
 
@@ -217,7 +68,7 @@ static int open_log(struct table *table, const char *path, char **error)
 
 static int declare(sqlite3 *db, const struct table *table, char **error)
 {
-    char *sql = table_text(db, table);
+    char *sql = table_text(db, table->shape, &table->log);
     if (sql == NULL)
         return SQLITE_NOMEM;
     int status = sqlite3_declare_vtab(db, sql);
@@ -313,8 +164,8 @@ static int flight_close(sqlite3_vtab_cursor *base)
 static int refuse_scan(sqlite3_vtab *table, const struct rows *rows)
 {
     sqlite3_free(table->zErrMsg);
-    return fail_with(&table->zErrMsg, sqlite3_mprintf("refused %llu, place %llu, during a scan", (unsigned long long)rows->status,
-                                                      (unsigned long long)rows->told[0]));
+    return fail_with(&table->zErrMsg, sqlite3_mprintf("refused %llu, place %llu, during a scan", (unsigned long long)DULIMASCA_REFUSAL(rows->status),
+                                                      (unsigned long long)DULIMASCA_PLACE(rows->status)));
 }
 
 /* To the next row that belongs to the table. */
@@ -325,7 +176,7 @@ static int flight_next(sqlite3_vtab_cursor *base)
     do
         cursor->row = rows_next(&cursor->rows);
     while (cursor->row != NULL && strchr(letters, row_letter(cursor->row)) == NULL);
-    if (cursor->row == NULL && cursor->rows.status > DULIMASCA_DONE)
+    if (cursor->row == NULL && DULIMASCA_IS_REFUSED(cursor->rows.status))
         return refuse_scan(base->pVtab, &cursor->rows);
     return SQLITE_OK;
 }
@@ -375,9 +226,9 @@ static const sqlite3_module flight_module = {
 
 static void result_end(sqlite3_context *context, const struct log *log)
 {
-    uint64_t told[DULIMASCA_TOLD];
-    uint64_t status = dulimasca_count(log->definition, sizeof log->definition, log->section.text, log->section.length, told, DULIMASCA_TOLD);
-    if (status > DULIMASCA_DONE) {
+    uint8_t told[DULIMASCA_TOLD];
+    uint64_t status = dulimasca_count(log->definition, sizeof log->definition, log->section.text, log->section.length, told, sizeof told);
+    if (DULIMASCA_IS_REFUSED(status)) {
         sqlite3_result_error(context, "the section was refused", -1);
         return;
     }

@@ -1,4 +1,4 @@
-/* A flight log in memory: the file, the header numbers of its `H ` lines, its definition; and the rows of its walk.
+/* A flight log in memory: the file, its settings and its definition; and the rows of its walk.
  * See log.h. POSIX is used for reading, since C alone cannot tell a regular file from a pipe. */
 #define _POSIX_C_SOURCE 200809L
 #define _FILE_OFFSET_BITS 64
@@ -8,6 +8,7 @@
 #include <errno.h>
 #include <fcntl.h>
 #include <inttypes.h>
+#include <stdarg.h>
 #include <stdio.h>
 #include <string.h>
 #include <sys/stat.h>
@@ -78,105 +79,16 @@ static enum log_opened load(struct log *log, const char *path)
     return loaded;
 }
 
-/* The header numbers. */
+/* Numbers, low byte first, whatever the machine's own order is. */
 
-struct numbers {
-    uint32_t min_throttle, vbat_reference, min_motor;
-    uint32_t numerator, denominator;
-};
-
-/* Takes a prefix away from a line, if it begins so. */
-static bool take_prefix(struct stretch *line, const char *prefix)
+static uint32_t number_4(const uint8_t *b)
 {
-    size_t n = strlen(prefix);
-    if (line->length < n || memcmp(line->text, prefix, n) != 0)
-        return false;
-    line->text += n;
-    line->length -= n;
-    return true;
+    return (uint32_t)b[0] | (uint32_t)b[1] << 8 | (uint32_t)b[2] << 16 | (uint32_t)b[3] << 24;
 }
 
-/* A decimal number of at most 65535 with an optional `+` and nothing else, or DULIMASCA_ABSENT. */
-static uint32_t decimal(struct stretch s)
+static uint64_t number_8(const uint8_t *b)
 {
-    uint32_t number = 0;
-    size_t i = s.length > 0 && s.text[0] == '+' ? 1 : 0;
-    if (i == s.length)
-        return DULIMASCA_ABSENT;
-    for (; i < s.length; i++) {
-        if (s.text[i] < '0' || s.text[i] > '9')
-            return DULIMASCA_ABSENT;
-        number = 10 * number + (uint32_t)(s.text[i] - '0');
-        if (number > 65535)
-            return DULIMASCA_ABSENT;
-    }
-    return number;
-}
-
-/* The two parts of a text around the first `mark`; false: there is none. */
-static bool split(struct stretch s, char mark, struct stretch *before, struct stretch *behind)
-{
-    const uint8_t *at = s.length > 0 ? memchr(s.text, mark, s.length) : NULL;
-    if (at == NULL)
-        return false;
-    before->text = s.text;
-    before->length = (size_t)(at - s.text);
-    behind->text = at + 1;
-    behind->length = s.length - before->length - 1;
-    return true;
-}
-
-/* The first of two numbers; none where either cannot be read. */
-static uint32_t first_of_two(struct stretch value)
-{
-    struct stretch least, most;
-    if (!split(value, ',', &least, &most) || decimal(most) == DULIMASCA_ABSENT)
-        return DULIMASCA_ABSENT;
-    return decimal(least);
-}
-
-/* N/M, or M alone for 1/M. Anything else becomes 0/0, which the library refuses: half-read intervals are not to pass for 1/1. */
-static void take_interval(struct numbers *numbers, struct stretch value)
-{
-    struct stretch above, below;
-    uint32_t numerator = 1, denominator;
-    if (split(value, '/', &above, &below)) {
-        numerator = decimal(above);
-        denominator = decimal(below);
-    } else {
-        denominator = decimal(value);
-    }
-    bool good = numerator != DULIMASCA_ABSENT && denominator != DULIMASCA_ABSENT;
-    numbers->numerator = good ? numerator : 0;
-    numbers->denominator = good ? denominator : 0;
-}
-
-/* The last line of a name counts. Where its number cannot be read there is none, and a predictor that needs it is refused. */
-static void take_line(struct numbers *numbers, struct stretch line)
-{
-    if (take_prefix(&line, "H minthrottle:"))
-        numbers->min_throttle = decimal(line);
-    else if (take_prefix(&line, "H vbatref:"))
-        numbers->vbat_reference = decimal(line);
-    else if (take_prefix(&line, "H motorOutput:"))
-        numbers->min_motor = first_of_two(line);
-    else if (take_prefix(&line, "H P interval:"))
-        take_interval(numbers, line);
-}
-
-static struct numbers header_numbers(struct stretch rest)
-{
-    struct numbers numbers = {DULIMASCA_ABSENT, DULIMASCA_ABSENT, DULIMASCA_ABSENT, 1, 1};
-    while (rest.length >= 2 && rest.text[0] == 'H' && rest.text[1] == ' ') {
-        struct stretch line, behind;
-        if (!split(rest, '\n', &line, &behind)) {
-            line = rest;
-            behind = (struct stretch){rest.text + rest.length, 0};
-        }
-        take_line(&numbers, line);
-        rest = behind;
-    }
-    return numbers;
+    return (uint64_t)number_4(b) | (uint64_t)number_4(b + 4) << 32;
 }
 
 /* The definition. */
@@ -192,37 +104,63 @@ static const char *refusal_in_words(uint64_t refusal)
         "lists of different lengths",
         "inter lists of different lengths",
         "a predictor lacks what it needs",
-        "a frame interval other than 1/1",
+        "a frame interval that is not taken",
     };
     return refusal >= 1 && refusal <= 9 ? words[refusal - 1] : "not to be expected of a log";
 }
 
-static enum log_opened refused(struct log *log, uint64_t refusal, const uint64_t told[DULIMASCA_TOLD])
+/* Adds to the problem's words. */
+__attribute__((format(printf, 2, 3))) static void say(struct log *log, const char *format, ...)
 {
-    log->refusal = refusal;
-    log->place = told[0];
-    log->round = told[1];
-    int n = snprintf(log->problem, sizeof log->problem, "refused %" PRIu64 ", place %" PRIu64, refusal, log->place);
-    if (refusal == 3)
-        n += snprintf(log->problem + n, sizeof log->problem - (size_t)n, ", round %" PRIu64, log->round);
-    snprintf(log->problem + n, sizeof log->problem - (size_t)n, ": %s", refusal_in_words(refusal));
+    size_t said = strlen(log->problem);
+    va_list values;
+    va_start(values, format);
+    vsnprintf(log->problem + said, sizeof log->problem - said, format, values);
+    va_end(values);
+}
+
+/* The interval that was refused, and what a 0 in it means. */
+static void say_interval(struct log *log, const uint8_t *settings)
+{
+    uint32_t intra = number_4(settings + 4 * DULIMASCA_SET_INTRA);
+    uint32_t numerator = number_4(settings + 4 * DULIMASCA_SET_NUMERATOR);
+    uint32_t denominator = number_4(settings + 4 * DULIMASCA_SET_DENOMINATOR);
+    say(log, ": I %" PRIu32 ", P %" PRIu32 "/%" PRIu32, intra, numerator, denominator);
+    if (intra == 0 || numerator == 0 || denominator == 0)
+        say(log, " (0: no line gives it, or none that can be read)");
+}
+
+static enum log_opened refused(struct log *log, uint64_t answer, const uint8_t *settings)
+{
+    log->refusal = DULIMASCA_REFUSAL(answer);
+    log->place = DULIMASCA_PLACE(answer);
+    log->round = DULIMASCA_ROUND(answer);
+    say(log, "refused %" PRIu64 ", place %" PRIu64, log->refusal, log->place);
+    if (log->refusal == 3)
+        say(log, ", round %" PRIu64, log->round);
+    say(log, ": %s", refusal_in_words(log->refusal));
+    if (log->refusal == 9)
+        say_interval(log, settings);
     return LOG_REFUSED;
 }
 
 static enum log_opened define(struct log *log)
 {
-    struct numbers n = header_numbers((struct stretch){log->bytes, log->length});
-    uint64_t told[DULIMASCA_TOLD];
-    uint64_t status = dulimasca_define(log->bytes, log->length, n.min_throttle, n.vbat_reference, n.min_motor, n.numerator, n.denominator,
-                                       log->definition, sizeof log->definition, told, DULIMASCA_TOLD);
-    if (status != 0)
-        return refused(log, status, told);
-    log->section = (struct stretch){log->bytes + told[0], log->length - (size_t)told[0]};
-    log->fields = told[1] < 2 ? 0 : (size_t)told[1] - 2;
-    log->slow_fields = (size_t)told[2];
-    log->names = (struct stretch){log->bytes + told[3], (size_t)(told[4] - told[3])};
-    log->slow_names = (struct stretch){log->bytes + told[5], (size_t)(told[6] - told[5])};
-    log->row_length = (size_t)told[7];
+    uint8_t settings[DULIMASCA_SETTINGS], told[DULIMASCA_TOLD];
+    uint64_t answer = dulimasca_settings(log->bytes, log->length, settings, sizeof settings);
+    if (!DULIMASCA_IS_REFUSED(answer))
+        answer = dulimasca_define(log->bytes, log->length, settings, sizeof settings, log->definition, sizeof log->definition, told, sizeof told);
+    if (DULIMASCA_IS_REFUSED(answer))
+        return refused(log, answer, settings);
+    size_t t[8];
+    for (int i = 0; i < 8; i++)
+        t[i] = (size_t)dulimasca_number(told, i);
+    log->section = (struct stretch){log->bytes + t[0], log->length - t[0]};
+    log->fields = t[1] < 2 ? 0 : t[1] - 2;
+    log->slow_fields = t[2];
+    log->names = (struct stretch){log->bytes + t[3], t[4] - t[3]};
+    log->slow_names = (struct stretch){log->bytes + t[5], t[6] - t[5]};
+    log->row_length = t[7];
     return LOG_DEFINED;
 }
 
@@ -251,18 +189,19 @@ void log_close(struct log *log)
 struct stretch log_name(const struct log *log, uint32_t kind, size_t item)
 {
     struct stretch list = kind == DULIMASCA_MAIN ? log->names : log->slow_names;
-    uint64_t told[DULIMASCA_TOLD];
+    uint8_t told[DULIMASCA_TOLD];
     if (dulimasca_name(log->definition, sizeof log->definition, kind, log->names.text, log->names.length, log->slow_names.text,
-                       log->slow_names.length, item, told, DULIMASCA_TOLD) != 0)
+                       log->slow_names.length, item, told, sizeof told) != 0)
         return (struct stretch){list.text, 0};
-    return (struct stretch){list.text + told[0], (size_t)(told[1] - told[0])};
+    size_t begin = (size_t)dulimasca_number(told, 0);
+    return (struct stretch){list.text + begin, (size_t)dulimasca_number(told, 1) - begin};
 }
 
-void log_end_line(char line[LOG_END_LINE], uint64_t status, const uint64_t told[DULIMASCA_TOLD])
+void log_end_line(char line[LOG_END_LINE], uint64_t status, const uint8_t told[DULIMASCA_TOLD])
 {
     const char *how = status == DULIMASCA_DONE ? "done" : status == DULIMASCA_CUT ? "cut" : "out of data";
-    snprintf(line, LOG_END_LINE, "end %s main %" PRIu64 " event %" PRIu64 " slow %" PRIu64 " tried %" PRIu64 " rejected %" PRIu64, how, told[1],
-             told[2], told[3], told[5], told[4]);
+    snprintf(line, LOG_END_LINE, "end %s main %" PRIu64 " event %" PRIu64 " slow %" PRIu64 " tried %" PRIu64 " rejected %" PRIu64, how,
+             dulimasca_number(told, 1), dulimasca_number(told, 2), dulimasca_number(told, 3), dulimasca_number(told, 5), dulimasca_number(told, 4));
 }
 
 /* The rows. */
@@ -293,7 +232,7 @@ bool rows_open(struct rows *rows, const struct log *log)
 void rows_start(struct rows *rows)
 {
     rows->next = rows->count = 0;
-    rows->status = dulimasca_start(rows->state, sizeof rows->state, rows->told, DULIMASCA_TOLD);
+    rows->status = dulimasca_start(rows->state, sizeof rows->state, rows->told, sizeof rows->told);
 }
 
 void rows_close(struct rows *rows)
@@ -305,9 +244,9 @@ static void next_batch(struct rows *rows)
 {
     const struct log *log = rows->log;
     rows->status = dulimasca_rows(log->definition, sizeof log->definition, rows->state, sizeof rows->state, log->section.text,
-                                  log->section.length, rows->batch, rows->batch_length, rows->told, DULIMASCA_TOLD);
+                                  log->section.length, rows->batch, rows->batch_length, rows->told, sizeof rows->told);
     rows->next = 0;
-    rows->count = rows->status <= DULIMASCA_DONE ? (size_t)rows->told[6] : 0;
+    rows->count = DULIMASCA_IS_REFUSED(rows->status) ? 0 : (size_t)dulimasca_number(rows->told, 6);
 }
 
 const uint8_t *rows_next(struct rows *rows)
@@ -318,17 +257,6 @@ const uint8_t *rows_next(struct rows *rows)
         next_batch(rows);
     }
     return rows->batch + rows->log->row_length * rows->next++;
-}
-
-/* Low byte first, whatever the machine's own order is. */
-static uint32_t number_4(const uint8_t *b)
-{
-    return (uint32_t)b[0] | (uint32_t)b[1] << 8 | (uint32_t)b[2] << 16 | (uint32_t)b[3] << 24;
-}
-
-static uint64_t number_8(const uint8_t *b)
-{
-    return (uint64_t)number_4(b) | (uint64_t)number_4(b + 4) << 32;
 }
 
 char row_letter(const uint8_t *row)

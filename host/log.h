@@ -44,7 +44,7 @@ struct stretch log_name(const struct log *log, uint32_t kind, size_t item);
 
 /* The line `end ..` of a walk, by the status and the numbers that dulimasca_count or dulimasca_rows gave at its end. */
 #define LOG_END_LINE 160
-void log_end_line(char line[LOG_END_LINE], uint64_t status, const uint64_t told[DULIMASCA_TOLD]);
+void log_end_line(char line[LOG_END_LINE], uint64_t status, const uint8_t told[DULIMASCA_TOLD]);
 
 /* The rows of a log's walk, one after the other. Several may go over one log at once. */
 struct rows {
@@ -54,7 +54,7 @@ struct rows {
     size_t batch_length;
     size_t next, count; /* rows of the batch */
     uint64_t status;    /* of the last call: how the walk stands, or a refusal */
-    uint64_t told[DULIMASCA_TOLD];
+    uint8_t told[DULIMASCA_TOLD];
 };
 
 /* False: no memory. Where it is true, rows_close has to follow; rows_start sets the walk to its beginning, as often as wanted. */

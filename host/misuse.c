@@ -1,359 +1,270 @@
-/* Calls every function of the library with what it has to refuse: short buffers, wrong versions, wrong kinds, states that no walk over the section has.
- * Checked each time: the status, the numbers told (into 8, 3 and 0 rooms), and that everything else that was lent kept its content. */
-#include <inttypes.h>
-#include <stdbool.h>
+/* Calls every function of the library with what it has to refuse: each fault alone, and each two of them at once, which shows what is looked for first.
+ * Each time the answer is checked, and that not one byte of what was lent, or around it, was written. Before that uses.c checks calls that are not refused. */
 #include <stdio.h>
 #include <string.h>
 
-#include "dulimasca.h"
+#include "uses.h"
 
-static const char lists[] = "H Field I name:loopIteration,time,motor[0]\n"
-                            "H Field I signed:0,0,0\n"
-                            "H Field I predictor:0,0,8\n"
-                            "H Field I encoding:1,1,0\n"
-                            "H Field P predictor:6,2,1\n"
-                            "H Field P encoding:9,0,0\n"
-                            "H Field S name:a,b\n"
-                            "H Field S signed:0,1\n"
-                            "H Field S predictor:0,0\n"
-                            "H Field S encoding:1,0\n";
-static const uint8_t section[] = {'I', 5, 100, 20, 'P', 10, 2, 'S', 3, 7, 'E', 255, 'E', 'n', 'd', ' ', 'o', 'f', ' ', 'l', 'o', 'g', 0};
-static const char names[] = "loopIteration,time,motor[0]";
-static const char slow_names[] = "a,b";
+#define REFUSED(number, place) ((number) + UINT64_C(256) + UINT64_C(65536) * (place))
 
-#define ROW 36 /* 24 and three values: an event has the most */
-#define BEHIND 16
+/* The parts of an answer. */
+#define UNKNOWN_ITEM (REFUSED(3, 4) + 2 * 256)
+_Static_assert(DULIMASCA_IS_REFUSED(UNKNOWN_ITEM) && DULIMASCA_REFUSAL(UNKNOWN_ITEM) == 3, "a refusal's number");
+_Static_assert(DULIMASCA_PLACE(UNKNOWN_ITEM) == 4 && DULIMASCA_ROUND(UNKNOWN_ITEM) == 2, "its place and its round");
+_Static_assert(!DULIMASCA_IS_REFUSED(255) && DULIMASCA_IS_REFUSED(REFUSED(1, 0)), "what is refused");
+_Static_assert(DULIMASCA_PLACE(UINT64_MAX) == (UINT64_C(1) << 48) - 1, "the greatest place");
 
-/* All that a call can be lent. Buffers are longer than their lengths say, so that a write beyond them is seen. */
-struct lent {
-    const uint8_t *log;
-    size_t log_length;
-    const uint8_t *section;
-    size_t section_length;
-    uint32_t kind, numerator, denominator;
-    size_t item;
-    uint8_t definition[DULIMASCA_DEFINITION + BEHIND];
-    size_t definition_length;
-    uint8_t state[DULIMASCA_STATE + BEHIND];
-    size_t state_length;
-    uint8_t rows[5 * ROW];
-    size_t rows_length;
-    uint64_t told[DULIMASCA_TOLD + 1];
-    size_t told_length;
+/* Something that is wrong: where, how it is made of good memory, and the answer to it alone. */
+struct fault {
+    const char *what;
+    enum part in;
+    void (*make)(struct lent *lent, const struct fault *fault);
+    uint64_t first, second;
+    uint64_t answer;
+    const char *log;
 };
 
-typedef uint64_t (*function)(struct lent *);
-
-static uint64_t define(struct lent *l)
+static void length_is(struct lent *lent, const struct fault *fault)
 {
-    return dulimasca_define(l->log, l->log_length, DULIMASCA_ABSENT, DULIMASCA_ABSENT, DULIMASCA_ABSENT, l->numerator, l->denominator, l->definition,
-                            l->definition_length, l->told, l->told_length);
+    lent->length[fault->in] = (size_t)fault->first;
 }
 
-static uint64_t name(struct lent *l)
+static void bytes_are(struct lent *lent, const struct fault *fault)
 {
-    return dulimasca_name(l->definition, l->definition_length, l->kind, (const uint8_t *)names, strlen(names), (const uint8_t *)slow_names,
-                          strlen(slow_names), l->item, l->told, l->told_length);
+    memset(bytes_of(lent, fault->in), (int)fault->first, lent->length[fault->in]);
 }
 
-static uint64_t count(struct lent *l)
+static void byte_is(struct lent *lent, const struct fault *fault)
 {
-    return dulimasca_count(l->definition, l->definition_length, l->section, l->section_length, l->told, l->told_length);
+    bytes_of(lent, fault->in)[fault->first] = (uint8_t)fault->second;
 }
 
-static uint64_t fill(struct lent *l)
+static void number_is(struct lent *lent, const struct fault *fault)
 {
-    return dulimasca_fill(l->definition, l->definition_length, l->section, l->section_length, l->kind, l->item, l->rows, l->rows_length, l->told,
-                          l->told_length);
+    put_8(bytes_of(lent, fault->in) + fault->first, fault->second);
 }
 
-static uint64_t start(struct lent *l)
+static void setting_is(struct lent *lent, const struct fault *fault)
 {
-    return dulimasca_start(l->state, l->state_length, l->told, l->told_length);
+    put_4(bytes_of(lent, SETTINGS) + 4 * fault->first, (uint32_t)fault->second);
 }
 
-static uint64_t rows(struct lent *l)
+static void kind_is(struct lent *lent, const struct fault *fault)
 {
-    return dulimasca_rows(l->definition, l->definition_length, l->state, l->state_length, l->section, l->section_length, l->rows, l->rows_length,
-                          l->told, l->told_length);
+    lent->kind = (uint32_t)fault->first;
 }
 
-static unsigned failed, passed;
-
-/* The variant is the number of rooms for numbers, or that of the row. */
-static void check(const char *what, size_t variant, bool good)
+static void log_is(struct lent *lent, const struct fault *fault)
 {
-    if (good) {
-        passed++;
-    } else {
-        failed++;
-        printf("misuse: %s (%zu): not as it should be\n", what, variant);
+    lend(lent, LOG, fault->log, strlen(fault->log));
+}
+
+/* One accepted frame more than there can be at the walk's place. */
+static void frames_before_bytes(struct lent *lent, const struct fault *fault)
+{
+    put_8(bytes_of(lent, fault->in) + 32, 1);
+    put_8(bytes_of(lent, fault->in) + 64, 1);
+}
+
+/* A main list of 65 items, all of it the items' first. */
+static void items_are_65(struct lent *lent, const struct fault *fault)
+{
+    static const char *const begins[] = {"name:loopIteration,time", "signed:0,0", "predictor:0,0", "encoding:1,1"};
+    char text[1000] = "", line[200];
+    (void)fault;
+    for (int list = 0; list < 6; list++) {
+        int n = snprintf(line, sizeof line, "H Field %c %s", list < 4 ? 'I' : 'P', list < 4 ? begins[list] : list == 4 ? "predictor:6,2" : "encoding:9,0");
+        for (int item = 2; item < 65; item++)
+            n += snprintf(line + n, sizeof line - (size_t)n, ",0");
+        strcat(strcat(text, line), "\n");
     }
+    lend(lent, LOG, text, strlen(text));
 }
 
-/* The call has this status and tells these numbers; `written` is how all that was lent looks behind it, but for `told`. */
-static void expect_writing(const char *what, function f, const struct lent *before, const struct lent *written, uint64_t status,
-                           const uint64_t told[DULIMASCA_TOLD])
+#define TEN REFUSED(10, 0)
+#define BITS_33 UINT64_C(4294967297) /* 1 in the low 32 */
+
+static const struct fault no_settings[] = {
+    {"settings of 1 byte", SETTINGS, length_is, 1, 0, TEN, NULL},
+    {"settings of 5 bytes", SETTINGS, length_is, 5, 0, TEN, NULL},
+    {"settings one byte short", SETTINGS, length_is, DULIMASCA_SETTINGS - 1, 0, TEN, NULL},
+    {"settings of one byte more", SETTINGS, length_is, DULIMASCA_SETTINGS + 1, 0, TEN, NULL},
+    {"settings of 28 bytes", SETTINGS, length_is, 28, 0, TEN, NULL},
+};
+static const struct fault no_definition[] = {
+    {"a definition one byte short", DEFINITION, length_is, DULIMASCA_DEFINITION - 1, 0, TEN, NULL},
+    {"a definition of 414 bytes", DEFINITION, length_is, 414, 0, TEN, NULL},
+    {"a definition of no bytes", DEFINITION, length_is, 0, 0, TEN, NULL},
+    {"a definition of version 1", DEFINITION, number_is, 0, 1, TEN, NULL},
+    {"a definition of version 3", DEFINITION, number_is, 0, 3, TEN, NULL},
+    {"a definition of bytes 255", DEFINITION, bytes_are, 255, 0, TEN, NULL},
+    {"a definition of bytes 0", DEFINITION, bytes_are, 0, 0, TEN, NULL},
+};
+static const struct fault unsound_definition[] = {
+    {"a predictor that lacks its number", DEFINITION, byte_is, 56, 4, TEN, NULL},
+    {"an inter predictor that lacks its motor", DEFINITION, byte_is, 118, 5, TEN, NULL},
+    {"an unknown predictor", DEFINITION, byte_is, 56, 200, TEN, NULL},
+    {"an unknown inter encoding", DEFINITION, byte_is, 242, 2, TEN, NULL},
+    {"an unknown slow encoding", DEFINITION, byte_is, 382, 10, TEN, NULL},
+    {"a definition of 65 items", DEFINITION, number_is, 8, 65, TEN, NULL},
+    {"a definition of 17 slow items", DEFINITION, number_is, 24, 17, TEN, NULL},
+    {"a definition of very many slow items", DEFINITION, number_is, 24, UINT64_MAX, TEN, NULL},
+    {"a definition with no intra interval", DEFINITION, number_is, DULIMASCA_DEFINITION_INTERVAL, 0, TEN, NULL},
+    {"a definition with an interval of 0/1", DEFINITION, number_is, DULIMASCA_DEFINITION_INTERVAL + 8, 0, TEN, NULL},
+    {"a definition with an interval of 1/2", DEFINITION, number_is, DULIMASCA_DEFINITION_INTERVAL + 16, 2, TEN, NULL},
+    {"an intra interval of 33 bits", DEFINITION, number_is, DULIMASCA_DEFINITION_INTERVAL, BITS_33, TEN, NULL},
+    {"a numerator of 33 bits", DEFINITION, number_is, DULIMASCA_DEFINITION_INTERVAL + 8, BITS_33, TEN, NULL},
+    {"a denominator of 33 bits", DEFINITION, number_is, DULIMASCA_DEFINITION_INTERVAL + 16, BITS_33, TEN, NULL},
+};
+static const struct fault no_kind[] = {
+    {"kind 2", KIND, kind_is, 2, 0, TEN, NULL},
+    {"the greatest kind", KIND, kind_is, UINT32_MAX, 0, TEN, NULL},
+};
+static const struct fault no_state[] = {
+    {"a state one byte short", STATE, length_is, DULIMASCA_STATE - 1, 0, TEN, NULL},
+    {"a state of no bytes", STATE, length_is, 0, 0, TEN, NULL},
+    {"a state of version 0", STATE, number_is, 0, 0, TEN, NULL},
+    {"a state of version 2", STATE, number_is, 0, 2, TEN, NULL},
+    {"a state of bytes 255", STATE, bytes_are, 255, 0, TEN, NULL},
+    {"an ending that there is not", STATE, number_is, 16, 2, TEN, NULL},
+    {"a last frame of no letter", STATE, number_is, 72, 'S', TEN, NULL},
+    {"an older frame of no letter", STATE, number_is, 336, 'X', TEN, NULL},
+};
+static const struct fault wrong_state[] = {
+    {"a place beyond the section", STATE, number_is, 8, 24, TEN, NULL},
+    {"the greatest place", STATE, number_is, 8, UINT64_MAX, TEN, NULL},
+    {"a cut that is no trial", STATE, number_is, 16, 'I', TEN, NULL},
+    {"main frames that are no trials", STATE, number_is, 32, 1, TEN, NULL},
+    {"events that are no trials", STATE, number_is, 40, 1, TEN, NULL},
+    {"slow frames that are no trials", STATE, number_is, 48, UINT64_MAX, TEN, NULL},
+    {"rejected trials that are none", STATE, number_is, 56, 1, TEN, NULL},
+    {"trials of nothing", STATE, number_is, 64, 7, TEN, NULL},
+    {"more trials than the place", STATE, frames_before_bytes, 0, 0, TEN, NULL},
+    {"an older frame and no last", STATE, number_is, 336, 'I', TEN, NULL},
+};
+static const struct fault short_settings[] = {
+    {"settings one byte short", SETTINGS, length_is, DULIMASCA_SETTINGS - 1, 0, REFUSED(11, DULIMASCA_SETTINGS), NULL},
+    {"settings of 20 bytes", SETTINGS, length_is, 20, 0, REFUSED(11, DULIMASCA_SETTINGS), NULL},
+    {"settings of no bytes", SETTINGS, length_is, 0, 0, REFUSED(11, DULIMASCA_SETTINGS), NULL},
+};
+static const struct fault short_definition[] = {
+    {"a definition one byte short", DEFINITION, length_is, DULIMASCA_DEFINITION - 1, 0, REFUSED(11, DULIMASCA_DEFINITION), NULL},
+    {"a definition of 10 bytes", DEFINITION, length_is, 10, 0, REFUSED(11, DULIMASCA_DEFINITION), NULL},
+    {"a definition of no bytes", DEFINITION, length_is, 0, 0, REFUSED(11, DULIMASCA_DEFINITION), NULL},
+};
+static const struct fault short_state[] = {
+    {"a state one byte short", STATE, length_is, DULIMASCA_STATE - 1, 0, REFUSED(11, DULIMASCA_STATE), NULL},
+    {"a state of no bytes", STATE, length_is, 0, 0, REFUSED(11, DULIMASCA_STATE), NULL},
+};
+static const struct fault short_values[] = {
+    {"values one byte short", OUT, length_is, 7, 0, REFUSED(11, 8), NULL},
+    {"no room for values", OUT, length_is, 0, 0, REFUSED(11, 8), NULL},
+};
+static const struct fault short_rows[] = {
+    {"rows one byte short", OUT, length_is, ROW - 1, 0, REFUSED(11, ROW), NULL},
+    {"no room for rows", OUT, length_is, 0, 0, REFUSED(11, ROW), NULL},
+};
+static const struct fault short_told[] = {
+    {"one byte less for what is told", TOLD, length_is, DULIMASCA_TOLD - 1, 0, REFUSED(11, DULIMASCA_TOLD), NULL},
+    {"56 bytes for what is told", TOLD, length_is, 56, 0, REFUSED(11, DULIMASCA_TOLD), NULL},
+    {"no room for what is told", TOLD, length_is, 0, 0, REFUSED(11, DULIMASCA_TOLD), NULL},
+};
+
+#define NAMED "H Field I name:loopIteration,time,a\n"
+
+static const struct fault wrong_log[] = {
+    {"an empty log", LOG, length_is, 0, 0, REFUSED(1, 0), NULL},
+    {"no names", LOG, log_is, 0, 0, REFUSED(1, 0), MAIN_LISTS("0,0,0", "0,0,0", "1,1,0", "6,2,0", "9,0,0")},
+    {"no slow signs", LOG, log_is, 0, 0, REFUSED(1, 5),
+     NAMED MAIN_LISTS("0,0,0", "0,0,0", "1,1,0", "6,2,0", "9,0,0") "H Field S name:a\nH Field S predictor:0\nH Field S encoding:0\n"},
+    {"65 items", LOG, items_are_65, 0, 0, REFUSED(2, 65), NULL},
+    {"an unknown encoding", LOG, log_is, 0, 0, UNKNOWN_ITEM, NAMED MAIN_LISTS("0,0,0", "0,0,0", "1,1,0", "6,2,0", "9,0,2")},
+    {"no iteration", LOG, log_is, 0, 0, REFUSED(4, 0), NAMED MAIN_LISTS("0,0,0", "0,0,0", "0,1,0", "6,2,0", "9,0,0")},
+    {"no time", LOG, log_is, 0, 0, REFUSED(5, 1), NAMED MAIN_LISTS("0,0,0", "0,0,0", "1,1,0", "6,3,0", "9,0,0")},
+    {"intra predictors too many", LOG, log_is, 0, 0, REFUSED(6, 3), NAMED MAIN_LISTS("0,0,0", "0,0,0,0", "1,1,0", "6,2,0", "9,0,0")},
+    {"inter encodings too many", LOG, log_is, 0, 0, REFUSED(7, 3), NAMED MAIN_LISTS("0,0,0", "0,0,0", "1,1,0", "6,2,0", "9,0,0,0")},
+    {"a predictor that lacks its number", LOG, log_is, 0, 0, REFUSED(8, 2), NAMED MAIN_LISTS("0,0,0", "0,0,4", "1,1,0", "6,2,0", "9,0,0")},
+};
+static const struct fault wrong_interval[] = {
+    {"no intra interval", SETTINGS, setting_is, DULIMASCA_SET_INTRA, 0, REFUSED(9, 0), NULL},
+    {"an interval of 0/1", SETTINGS, setting_is, DULIMASCA_SET_NUMERATOR, 0, REFUSED(9, 0), NULL},
+    {"an interval of 1/2", SETTINGS, setting_is, DULIMASCA_SET_DENOMINATOR, 2, REFUSED(9, 0), NULL},
+};
+
+#define ALL(faults) {faults, sizeof faults / sizeof faults[0]}
+#define MOST_CHECKS 6
+
+/* The functions, with what each looks for, in this order. What a function writes whole is blank before. */
+static const struct checked {
+    const char *name;
+    function call;
+    enum part written;
+    size_t length;
+    struct {
+        const struct fault *faults;
+        size_t count;
+    } checks[MOST_CHECKS];
+} functions[] = {
+    {"settings", use_settings, SETTINGS, DULIMASCA_SETTINGS, {ALL(short_settings)}},
+    {"define", use_define, DEFINITION, DULIMASCA_DEFINITION,
+     {ALL(no_settings), ALL(short_definition), ALL(short_told), ALL(wrong_log), ALL(wrong_interval)}},
+    {"name", use_name, OUT, 3 * ROW, {ALL(no_definition), ALL(no_kind), ALL(short_told)}},
+    {"count", use_count, OUT, 3 * ROW, {ALL(no_definition), ALL(unsound_definition), ALL(short_told)}},
+    {"fill", use_fill, OUT, 3 * ROW, {ALL(no_definition), ALL(no_kind), ALL(unsound_definition), ALL(short_values), ALL(short_told)}},
+    {"start", use_start, STATE, DULIMASCA_STATE, {ALL(short_state), ALL(short_told)}},
+    {"rows", use_rows, OUT, 3 * ROW,
+     {ALL(no_definition), ALL(no_state), ALL(unsound_definition), ALL(wrong_state), ALL(short_rows), ALL(short_told)}},
+};
+
+/* The answer is that to the first fault. */
+static void try_faults(const struct checked *function, const struct fault *first, const struct fault *second)
 {
-    static const size_t lengths[] = {DULIMASCA_TOLD, 3, 0};
-    for (size_t i = 0; i < 3; i++) {
-        struct lent l, wanted;
-        memcpy(&l, before, sizeof l);
-        memcpy(&wanted, written, sizeof wanted);
-        l.told_length = wanted.told_length = lengths[i];
-        memcpy(wanted.told, told, lengths[i] * sizeof told[0]);
-        uint64_t got = f(&l);
-        check(what, lengths[i], got == status && memcmp(&l, &wanted, sizeof l) == 0);
-    }
+    static struct lent lent;
+    make_good(&lent);
+    lend_blank(&lent, function->written, function->length);
+    first->make(&lent, first);
+    if (second != NULL)
+        second->make(&lent, second);
+    expect(function->name, function->call, &lent, first->answer, &lent, first->what, second != NULL ? second->what : "");
 }
 
-/* The call writes nothing but the numbers told, of which the first two are these. */
-static void expect(const char *what, function f, const struct lent *before, uint64_t status, uint64_t first, uint64_t second)
+/* With each fault that is looked for later, but not two in one part. */
+static void try_fault(const struct checked *function, size_t check, const struct fault *fault)
 {
-    uint64_t told[DULIMASCA_TOLD] = {first, second};
-    expect_writing(what, f, before, before, status, told);
+    try_faults(function, fault, NULL);
+    for (size_t later = check + 1; later < MOST_CHECKS; later++)
+        for (size_t i = 0; i < function->checks[later].count; i++)
+            if (function->checks[later].faults[i].in != fault->in)
+                try_faults(function, fault, &function->checks[later].faults[i]);
 }
 
-/* A definition of the lists, a state that has not begun, room for three rows; all else filled with a byte that is none of theirs. */
-static struct lent good(void)
+static void try_function(const struct checked *function)
 {
-    struct lent l;
-    memset(&l, 0xA5, sizeof l);
-    l.log = (const uint8_t *)lists;
-    l.log_length = strlen(lists);
-    l.section = section;
-    l.section_length = sizeof section;
-    l.kind = DULIMASCA_MAIN;
-    l.numerator = l.denominator = 1;
-    l.item = 0;
-    l.definition_length = DULIMASCA_DEFINITION;
-    l.state_length = DULIMASCA_STATE;
-    l.rows_length = 3 * ROW;
-    l.told_length = 0;
-    if (define(&l) != 0 || start(&l) != 0) {
-        puts("misuse: the good definition or the first state was refused");
-        failed++;
-    }
-    return l;
+    for (size_t check = 0; check < MOST_CHECKS; check++)
+        for (size_t i = 0; i < function->checks[check].count; i++)
+            try_fault(function, check, &function->checks[check].faults[i]);
 }
 
-static void put_8(uint8_t *at, uint64_t number)
+/* A walk that has ended refuses what no walk over a section can be, too. */
+static void try_ended_walk(void)
 {
-    for (int i = 0; i < 8; i++)
-        at[i] = (uint8_t)(number >> 8 * i);
-}
-
-/* What every function that takes a definition refuses. */
-static void bad_definitions(function f)
-{
-    struct lent l = good();
-    l.definition_length = DULIMASCA_DEFINITION - 1;
-    expect("a short definition", f, &l, 10, 0, 0);
-    l.definition_length = 0;
-    expect("a definition of no bytes", f, &l, 10, 0, 0);
-    l = good();
-    put_8(l.definition, 2);
-    expect("a definition of version 2", f, &l, 10, 0, 0);
-    memset(l.definition, 0xFF, DULIMASCA_DEFINITION);
-    expect("a definition of bytes 255", f, &l, 10, 0, 0);
-    memset(l.definition, 0, DULIMASCA_DEFINITION);
-    expect("a definition of bytes 0", f, &l, 10, 0, 0);
-}
-
-/* What every function that walks refuses besides: definitions of this layout that no log has. */
-static void unsound_definitions(function f)
-{
-    struct lent l = good();
-    l.definition[56] = 4;
-    expect("a predictor that lacks its number", f, &l, 10, 0, 0);
-    l.definition[56] = 200;
-    expect("an unknown predictor", f, &l, 10, 0, 0);
-    l = good();
-    put_8(l.definition + 8, 65);
-    expect("a definition of 65 items", f, &l, 10, 0, 0);
-    l = good();
-    put_8(l.definition + 24, UINT64_MAX);
-    expect("a definition of very many slow items", f, &l, 10, 0, 0);
-}
-
-static void defining(void)
-{
-    struct lent l = good();
-    memset(l.definition, 0xA5, sizeof l.definition);
-    l.definition_length = DULIMASCA_DEFINITION - 1;
-    expect("define: a short buffer", define, &l, 11, DULIMASCA_DEFINITION, 0);
-    l.definition_length = 0;
-    expect("define: a buffer of no bytes", define, &l, 11, DULIMASCA_DEFINITION, 0);
-    l.definition_length = DULIMASCA_DEFINITION;
-    l.denominator = 2;
-    expect("define: interval 1/2", define, &l, 9, 0, 0);
-    l.denominator = 1;
-    l.log_length = 0;
-    expect("define: an empty log", define, &l, 1, 0, 0);
-}
-
-static void defining_well(void)
-{
-    const char *main_names = strstr(lists, names), *slow = strstr(lists, slow_names);
-    uint64_t at = (uint64_t)(main_names - lists), slow_at = (uint64_t)(slow - lists);
-    uint64_t told[DULIMASCA_TOLD] = {strlen(lists), 3, 2, at, at + strlen(names), slow_at, slow_at + strlen(slow_names), ROW};
-    struct lent l = good(), before = l;
-    memset(before.definition, 0xA5, DULIMASCA_DEFINITION);
-    l.definition_length = before.definition_length = DULIMASCA_DEFINITION + BEHIND / 2;
-    expect_writing("define: a longer buffer", define, &before, &l, 0, told);
-}
-
-static void naming(void)
-{
-    struct lent l = good();
-    bad_definitions(name);
-    l.item = 2;
-    expect("name: motor[0]", name, &l, 0, 19, 27);
-    l.item = 3;
-    expect("name: an item too many", name, &l, 1, 0, 0);
-    l.item = SIZE_MAX;
-    expect("name: the greatest number", name, &l, 1, 0, 0);
-    l.kind = 2;
-    expect("name: kind 2", name, &l, 10, 0, 0);
-    l.kind = DULIMASCA_SLOW;
-    l.item = 1;
-    expect("name: b", name, &l, 0, 2, 3);
-    put_8(l.definition + 24, UINT64_MAX);
-    l.item = 2;
-    expect("name: an item that the lent list does not have", name, &l, 1, 0, 0);
-}
-
-static void counting(void)
-{
-    uint64_t told[DULIMASCA_TOLD] = {sizeof section, 2, 1, 1, 0, 4};
-    struct lent l = good();
-    bad_definitions(count);
-    unsound_definitions(count);
-    expect_writing("count: the section", count, &l, &l, DULIMASCA_DONE, told);
-    l.section_length = 0;
-    expect("count: an empty section", count, &l, DULIMASCA_OUT_OF_DATA, 0, 0);
-}
-
-static void filling(void)
-{
-    uint64_t told[DULIMASCA_TOLD] = {4, 6, 105};
-    struct lent l = good(), written;
-    bad_definitions(fill);
-    unsound_definitions(fill);
-    l.kind = 2;
-    expect("fill: kind 2", fill, &l, 10, 0, 0);
-    l.kind = DULIMASCA_MAIN;
-    l.rows_length = 7;
-    expect("fill: a short buffer", fill, &l, 11, 8, 0);
-    l.rows_length = 0;
-    expect("fill: a buffer of no bytes", fill, &l, 11, 8, 0);
-    l.rows_length = 8;
-    l.item = 2;
-    expect("fill: a frame too many", fill, &l, DULIMASCA_DONE, 0, 0);
-    l.item = SIZE_MAX;
-    expect("fill: the greatest number", fill, &l, DULIMASCA_DONE, 0, 0);
-    l.section_length = 2;
-    expect("fill: a cut section", fill, &l, DULIMASCA_CUT, 'I', 0);
-    l = good();
-    l.item = 1;
-    written = l;
-    memcpy(written.rows, (const uint8_t[]){0xE7, 5, 0, 0}, 4); /* 1511 */
-    expect_writing("fill: the second main frame", fill, &l, &written, 'P', told);
-}
-
-static void starting(void)
-{
-    struct lent l = good();
-    memset(l.state, 0xA5, sizeof l.state);
-    l.state_length = DULIMASCA_STATE - 1;
-    expect("start: a short buffer", start, &l, 11, DULIMASCA_STATE, 0);
-    l.state_length = 0;
-    expect("start: a buffer of no bytes", start, &l, 11, DULIMASCA_STATE, 0);
-    l = good();
-    struct lent before = l;
-    memset(before.state, 0xA5, DULIMASCA_STATE);
-    l.state_length = before.state_length = DULIMASCA_STATE + BEHIND / 2;
-    expect_writing("start: a longer buffer", start, &before, &l, 0, (const uint64_t[DULIMASCA_TOLD]){0});
-}
-
-static void bad_state(const char *what, size_t at, uint64_t number)
-{
-    struct lent l = good();
-    put_8(l.state + at, number);
-    expect(what, rows, &l, 10, 0, 0);
-}
-
-static void bad_states(void)
-{
-    struct lent l = good();
-    l.state_length = DULIMASCA_STATE - 1;
-    expect("rows: a short state", rows, &l, 10, 0, 0);
-    l.state_length = 0;
-    expect("rows: a state of no bytes", rows, &l, 10, 0, 0);
-    bad_state("rows: a state of version 2", 0, 2);
-    bad_state("rows: a place beyond the section", 8, sizeof section + 1);
-    bad_state("rows: the greatest place", 8, UINT64_MAX);
-    bad_state("rows: an ending that there is not", 16, 2);
-    bad_state("rows: more frames than trials", 32, 1);
-    bad_state("rows: trials that are not the sum", 64, 7);
-    bad_state("rows: a last frame of no letter", 72, 'S');
-    bad_state("rows: an older frame of no letter", 336, 'X');
-}
-
-static void short_rows(void)
-{
-    struct lent l = good();
-    l.rows_length = ROW - 1;
-    expect("rows: room for less than a row", rows, &l, 11, ROW, 0);
-    l.rows_length = 0;
-    expect("rows: no room", rows, &l, 11, ROW, 0);
-}
-
-static bool is_filled(const uint8_t *bytes, size_t length)
-{
-    for (size_t i = 0; i < length; i++)
-        if (bytes[i] != 0xA5)
-            return false;
-    return true;
-}
-
-/* Room for one row and a part of the next: the part keeps its content, and the walk goes on row by row to its end. */
-static void rows_to_the_end(void)
-{
-    static const char letters[] = {'I', 'P', 'S', 'E'};
-    struct lent l = good();
-    uint64_t status = DULIMASCA_MORE;
-    l.rows_length = 2 * ROW - 1;
-    l.told_length = DULIMASCA_TOLD;
-    for (size_t i = 0; i < 4; i++) {
-        memset(l.rows, 0xA5, sizeof l.rows);
-        check("rows: there is more", i, status == DULIMASCA_MORE);
-        status = rows(&l);
-        check("rows: one row", i, l.told[6] == 1 && l.rows[0] == (uint8_t)letters[i]);
-        check("rows: what is behind the row", i, is_filled(l.rows + ROW, sizeof l.rows - ROW));
-    }
-    if (status == DULIMASCA_MORE)
-        status = rows(&l);
-    check("rows: the end", 4, status == DULIMASCA_DONE);
-    uint64_t told[DULIMASCA_TOLD] = {sizeof section, 2, 1, 1, 0, 4};
-    expect_writing("rows: behind the end", rows, &l, &l, DULIMASCA_DONE, told);
-    l.section_length = 5;
-    expect("rows: a shorter section behind the end", rows, &l, 10, 0, 0);
+    struct lent lent;
+    make_good(&lent);
+    put_8(bytes_of(&lent, STATE) + 8, lent.length[SECTION]);
+    put_8(bytes_of(&lent, STATE) + 16, DULIMASCA_DONE);
+    lent.length[SECTION]--;
+    expect("rows", use_rows, &lent, TEN, &lent, "a shorter section behind the end", "");
+    lent.length[SECTION]++;
+    lent.length[OUT] = 0;
+    expect("rows", use_rows, &lent, REFUSED(11, ROW), &lent, "no room behind the end", "");
 }
 
 int main(void)
 {
-    defining();
-    defining_well();
-    naming();
-    counting();
-    filling();
-    starting();
-    bad_definitions(rows);
-    unsound_definitions(rows);
-    bad_states();
-    short_rows();
-    rows_to_the_end();
+    try_good_uses();
+    for (size_t i = 0; i < sizeof functions / sizeof functions[0]; i++)
+        try_function(&functions[i]);
+    try_ended_walk();
     printf("misuse: %u calls as they should be, %u not\n", passed, failed);
     return failed == 0 ? 0 : 1;
 }

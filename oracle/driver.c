@@ -1,5 +1,5 @@
 /* driver: the library's side of oracle/compare. Reads logs from standard input, each as a length of 4 bytes, low byte first, and its bytes; prints of each what the program
- * `walk` prints, with the header numbers that its lines have and without a limit on lengths, then a line `--`. Answers are out before more input is waited for. */
+ * `walk` prints, with the settings that its lines give and without a limit on lengths, then a line `--`. Answers are out before more input is waited for. */
 #define _POSIX_C_SOURCE 200809L
 
 #include <errno.h>
@@ -76,7 +76,7 @@ static void print_session(const struct log *log)
     puts("kind at values");
     while ((row = rows_next(&rows)) != NULL)
         print_row(stdout, log, row);
-    if (rows.status > DULIMASCA_DONE)
+    if (DULIMASCA_IS_REFUSED(rows.status))
         fail("the library refused a walk that it began, which cannot be");
     log_end_line(line, rows.status, rows.told);
     puts(line);

@@ -8,9 +8,11 @@ from encoders import seven
 from list_cases import field, header, main
 from oracle_lists import FIXED, asked
 
-# Values of a header number's line: None for no line at all.
+# Values of a header line: None for no line at all.
 SINGLE = (None, "0", "1", "1150", "65535", "65536", "70000", "99999999999", "", "x", "+5", "+", "-1", "007", " 5", "5 ", "5\r", "0x10")
 DOUBLE = (None, "0,0", "5,2047", "65535,65535", "65536,1", "1,65536", "5", "5,", ",5", "x,1", "1,x", ",", "1,2,3", "+7,+8", "5, 7", "007,1", "")
+INTRA = (None, "1", "32", "0", "", "x", "+1", "01", " 1", "1 ", "1\r", "-1", "1/1", "65536", "4294967295", "4294967296", "18446744073709551617")
+INTER = (None, "1", "1/1", "1/2", "2/1", "2/2", "2", "0", "0/0", "", "x", "1/", "/1", "+1/+1", "01/1", "1/1/1", " 1", "1/x", "65536", "1/65537", "1/4294967297")
 NUMBER_LINES = (("minthrottle", "4", SINGLE), ("vbatref", "9", SINGLE), ("motorOutput", "11", DOUBLE))
 
 
@@ -53,9 +55,16 @@ def slow_lists(rng, count):
 
 
 def intervals(rng):
-    """Lines of the frame interval."""
-    for value in ("1", "1/1", "1/2", "2/1", "2", "0", "0/0", "", "x", "1/", "/1", "+1/+1", "01/1", "1/1/1", "65536", "1/65537", " 1"):
-        yield f"H P interval:{value}\n{header(main())}".encode("ascii") + b"I\x00\x00P\x00"
+    """Lines of the frame interval: each alone, both, and repeated."""
+    def line(name, value):
+        return "" if value is None else f"H {name} interval:{value}\n"
+
+    section = b"I\x00\x00P\x00"
+    for intra, inter in itertools.product(INTRA, INTER):
+        yield f"{line('I', intra)}{header(main())}{line('P', inter)}".encode("ascii") + section
+    for first, last in itertools.permutations(("1", "2", "x"), 2):
+        for name in "IP":
+            yield f"{line(name, first)}{line(name, last)}{header(main())}".encode("ascii") + section
 
 
 def header_numbers(rng):

@@ -69,8 +69,9 @@ def entry_of(log, flags):
     entry = Entry(reference.lists_of(lines).numbers, b"".join(kept), section, flags)
     refused = reference.lists_of(lines).refused
     fits = len(section) <= SECTION_MOST and len(entry.log()) <= LOG_MOST and (len(lines) <= LINES_MOST or refused and refused.number == 2 and len(lines) <= REFUSED_MOST)
-    # The program takes header numbers from the list and the interval 1/1, so lines that say otherwise mean something else there.
-    return entry if fits and not domain.unreadable(lines) and reference.INTERVAL not in reference.lists_of(lines).values else None
+    # The program takes header numbers from the list and an interval of 1, 1/1, so lines that say otherwise mean something else there.
+    plain = not domain.unreadable(lines) and not any(name in reference.lists_of(lines).values for name in reference.INTERVAL_LINES)
+    return entry if fits and plain else None
 
 
 def answered(entries):

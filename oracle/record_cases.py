@@ -164,7 +164,7 @@ def slow_frames(rng):
 def refusals(rng):
     """Lists that are refused, and some that nearly are, from the table of crates/lists."""
     rows = [(numbers, *reference.split(log)) for _, log, numbers in list_cases.logs() if len(log) <= 300]
-    skipped = (reference.INTERVAL, *reference.NUMBER_LINES)
+    skipped = (*reference.INTERVAL_LINES, *reference.NUMBER_LINES)
     return (row for row in rows if not any(name in reference.lists_of(row[1]).values for name in skipped))
 
 

@@ -1,5 +1,5 @@
 """What the Python of vectors/ says of a log: its text, its trials, and what the Rust is to say where the lists are refused.
-Header numbers are taken from the log's lines, as host/log.c takes them."""
+Header numbers and the frame interval are taken from the log's lines, as the library's `dulimasca_settings` takes them."""
 import functools
 import io
 import re
@@ -11,7 +11,7 @@ import sections
 import walks
 
 NUMBER_LINES = (b"minthrottle", b"vbatref", b"motorOutput")
-INTERVAL = b"P interval"
+INTERVAL_LINES = INTRA, INTER = b"I interval", b"P interval"
 
 
 class Lists(NamedTuple):
@@ -32,20 +32,27 @@ class Answer(NamedTuple):
     trials: list
 
 
+def decimal(text, bits):
+    """A number of so many bits, digits behind an optional `+`, or None where the text is none."""
+    return int(text) if re.fullmatch(rb"\+?[0-9]+", text) and int(text) < 2**bits else None
+
+
 def number(name, value):
-    """A header number of at most 65535, or None where its line cannot be read; of motorOutput the first of two."""
+    """A header number, or None where its line cannot be read; of motorOutput the first of two."""
     parts = value.split(b",", 1) if name == b"motorOutput" else [value]
+    numbers = [decimal(part, 16) for part in parts]
     wanted = 2 if name == b"motorOutput" else 1
-    readable = len(parts) == wanted and all(re.fullmatch(rb"\+?[0-9]+", part) and int(part) <= 65535 for part in parts)
-    return int(parts[0]) if readable else None
+    return None if len(numbers) != wanted or None in numbers else numbers[0]
 
 
-def interval(value):
-    """The frame interval of a line: N/M, or M alone for 1/M; what cannot be read is 0/0."""
-    parts = value.split(b"/", 1)
-    parts = parts if len(parts) == 2 else [b"1", *parts]
-    numbers = [number(b"", part) for part in parts]
-    return (0, 0) if None in numbers else tuple(numbers)
+def interval(values):
+    """The frame interval I, N, D of header lines: N/D, or D alone for 1/D; what cannot be read is 0.
+    With no line of its own, I is 1 where N and D are equal, else 0."""
+    numerator, slash, denominator = values.get(INTER, b"1/1").partition(b"/")
+    ratio = [decimal(part, 32) for part in ((numerator, denominator) if slash else (b"1", numerator))]
+    n, d = (0, 0) if None in ratio else ratio
+    i = decimal(values[INTRA], 32) or 0 if INTRA in values else int(n == d)
+    return i, n, d
 
 
 def numbers_of(values):
@@ -58,7 +65,7 @@ def lists_of(lines):
     values, _ = lists.header(lines)
     numbers = numbers_of(values)
     try:
-        main, slow = lists.define(lines, numbers, interval(values.get(INTERVAL, b"1")))
+        main, slow = lists.define(lines, numbers, lists.Settings(interval(values)))
     except lists.Refused as refused:
         return Lists(values, numbers, None, None, (), refused)
     names, p, q, e, f, signs = walks.columns(main[2:], 6)
