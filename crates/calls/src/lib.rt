@@ -1,5 +1,7 @@
 // One call: looks until one has something to say. The Rust's DataParser::next.
 // A quiet look changes the tally alone, so the history is not touched until the call answers.
+#![tactic(auto)]
+
 ghost use Rattle.std.specs.Prelude.{true, ◌≡◌, length};
 ghost use Rattle.extent.specs.Sight.{Barren};
 ghost use Rattle.section.specs.declared.Ending.TheVariants.{Going};
@@ -15,14 +17,14 @@ use section::{Check, Ending, Looked, Walk};
 pub mod quick;
 
 // Whether a look was in vain: then it ended in a search, which may have found nothing.
-#[derive(Drop)]
+#[derive(Clone, Copy)]
 enum Vain {
     Searched(bool),
     Says,
 }
 
 // What a call gives, and whether nothing is left to search for.
-#[derive(Drop)]
+#[derive(Clone, Copy)]
 pub struct Called {
     pub looked: Looked,
     pub barren: bool,

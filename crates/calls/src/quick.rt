@@ -14,7 +14,7 @@ use section::quick::{Light, settle_in};
 use section::{Answer, Ending};
 
 // What a call answers, the walk behind it, and whether nothing is left to search for.
-#[derive(Drop)]
+#[derive(Clone, Copy)]
 pub struct Stepped {
     pub answer: Answer,
     pub walk: Light,

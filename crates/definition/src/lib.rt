@@ -1,5 +1,7 @@
 // A log's lists to a definition, or the refusal: the six main lists, the four slow ones, the header numbers and the settings.
 // The Rust judges while it zips lazy items; here the lists are read into rows once, and the checks are a chain over rows.
+#![tactic(auto)]
+
 ghost use Rattle.std.specs.Prelude.{◌≡◌};
 ghost use Rattle.plan.specs.Plan.{no_numbers, plain};
 ghost use Rattle.definition.specs.Owes.{PaperOwes, DefineOwes};
@@ -13,7 +15,7 @@ use items::{Lists, Row};
 use plan::{Definition, HeaderNumber, Main, Numbers, Settings, Slow};
 
 // Why lists are refused, 1 to 9, with what the refusal's place says: a list, a number of rounds, a round, a field.
-#[derive(Drop)]
+#[derive(Clone, Copy)]
 pub enum Refusal {
     Absent(usize),
     TooMany(usize),
@@ -26,14 +28,14 @@ pub enum Refusal {
     Interval,
 }
 
-#[derive(Drop)]
+#[derive(Clone, Copy)]
 pub enum Verdict {
     Pass,
     Refused(Refusal),
 }
 
 // A refusal in the rules' own numbers. Only refusal 3 has a round; its place is the list.
-#[derive(Drop)]
+#[derive(Clone, Copy)]
 pub struct Paper {
     pub number: u8,
     pub place: usize,
@@ -41,14 +43,14 @@ pub struct Paper {
 }
 
 // The verdict stands beside the definition: a refused one has no fields.
-#[derive(Drop)]
+#[derive(Clone, Copy)]
 pub struct Defined {
     pub verdict: Verdict,
     pub definition: Definition,
 }
 
 // The lists of a main definition as rows; a slow one's predictors and encodings stand in both places.
-#[derive(Drop)]
+#[derive(Clone, Copy)]
 struct Rows {
     names: Row,
     intra_predictors: Row,
@@ -59,14 +61,14 @@ struct Rows {
 }
 
 // A verdict on the main lists, and their fields where they pass.
-#[derive(Drop)]
+#[derive(Clone, Copy)]
 struct MainJudged {
     verdict: Verdict,
     fields: Main,
 }
 
 // The same for the slow lists.
-#[derive(Drop)]
+#[derive(Clone, Copy)]
 struct SlowJudged {
     verdict: Verdict,
     fields: Slow,

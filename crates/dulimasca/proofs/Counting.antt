@@ -22,7 +22,7 @@ use Rattle.walks.specs.declared.Counted.{Counted}
 use Rattle.walks.specs.declared.Goal.TheVariants.{End}
 use Rattle.walks.specs.Owes as walks
 use Rattle.walks.specs.Walks.{Counts, checked_state, through_of, walked}
-use Rattle.bytes.specs.Bytes.{longs}
+use Rattle.octets.specs.Bytes.{longs}
 use Rattle.dulimasca.specs.Calls.{count_reply, count_by, count_of}
 use Rattle.dulimasca.specs.Define.{start_of}
 use Rattle.dulimasca.specs.Owes.{StartOwes, CountOwes}

@@ -18,7 +18,7 @@ use Rattle.definition.specs.declared.Verdict.TheVariants.{Pass, Refused}
 use Rattle.definition.specs.Checks.{paper_of}
 use Rattle.definition.specs.Defined.{defined, told as answer_of}
 use Rattle.definition.proofs.Chain.{passes, refuses as refuses_by}
-use Rattle.bytes.specs.Bytes.{longs}
+use Rattle.octets.specs.Bytes.{longs}
 use Rattle.settings.specs.declared.Said.{Said}
 use Rattle.settings.specs.Said.{said_of}
 use Rattle.settings.specs.Stored.{are_settings, numbers_in, settings_in, with_settings}

@@ -23,7 +23,7 @@ use Rattle.section.specs.Refusals.{admitted, needed, checked}
 use Rattle.section.specs.Walk.{Outcome, start}
 use Rattle.section.proofs.Admitted.{admitted_sound, needed_rooms, checked_pass}
 use Rattle.section.proofs.Paper.{paper_injective}
-use Rattle.bytes.specs.Bytes.{words, longs}
+use Rattle.octets.specs.Bytes.{words, longs}
 use Rattle.store.specs.declared.TakenDefinition.{TakenDefinition}
 use Rattle.store.specs.Definition.{taken_definition}
 use Rattle.walks.specs.declared.Goal.TheVariants.{Frame}

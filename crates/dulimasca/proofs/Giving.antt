@@ -19,7 +19,7 @@ use Rattle.store.specs.declared.TakenDefinition.{TakenDefinition}
 use Rattle.store.specs.declared.TakenState.{TakenState}
 use Rattle.store.specs.Definition.{taken_definition}
 use Rattle.store.specs.State.{taken_state, with_state}
-use Rattle.bytes.specs.Bytes.{longs}
+use Rattle.octets.specs.Bytes.{longs}
 use Rattle.dulimasca.specs.Calls.{kept, rows_reply, untold_by, checked_reply, rows_by, rows_of}
 use Rattle.dulimasca.specs.Owes.{RowsOwes}
 use Rattle.dulimasca.specs.Told.{packed, packed_by, told_length, reply, refuse, status_by, tally_numbers}

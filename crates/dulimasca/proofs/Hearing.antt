@@ -5,9 +5,9 @@ use mathlib.Core.Path.{◌≡◌, sym, ap, ◌∙◌}
 use native.Mathlib.Omega.{arith}
 use lib.ListN.{length, get_or, drop, replicate}
 use lib.Seq.{sets-eq, length-sets, drop-drop}
-use Rattle.bytes.proofs.Stores.{length_longs}
-use Rattle.bytes.specs.Bytes.{le32, le64, num64, longs}
-use Rattle.bytes.proofs.Round.{num_le64}
+use Rattle.octets.proofs.Stores.{length_longs}
+use Rattle.octets.specs.Bytes.{le32, le64, num64, longs}
+use Rattle.octets.proofs.Round.{num_le64}
 use Rattle.reader.specs.Place.{padded}
 use Rattle.dulimasca.specs.Told.{told_length, telling, number_told}
 

@@ -11,7 +11,7 @@ use Rattle.names.specs.Names.{name_at}
 use Rattle.reader.specs.Place.{padded}
 use Rattle.store.specs.declared.TakenDefinition.{TakenDefinition}
 use Rattle.store.specs.Definition.{taken_definition}
-use Rattle.bytes.specs.Bytes.{longs}
+use Rattle.octets.specs.Bytes.{longs}
 use Rattle.dulimasca.specs.declared.log.KindFor.{KindFor}
 use Rattle.dulimasca.specs.Define.{name_reply, name_by, name_of}
 use Rattle.dulimasca.specs.Owes.{NameOwes}

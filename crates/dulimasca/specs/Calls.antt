@@ -15,7 +15,7 @@ use Rattle.section.specs.Refusals.{checked}
 use Rattle.section.specs.Walk.{Outcome, start}
 use Rattle.walks.specs.declared.Goal.TheVariants.{End, Frame}
 use Rattle.walks.specs.Walks.{walked}
-use Rattle.bytes.specs.Bytes.{words}
+use Rattle.octets.specs.Bytes.{words}
 use Rattle.store.specs.Definition.{is_definition, definition_at}
 use Rattle.store.specs.State.{is_state, walk_at, with_state}
 use Rattle.rows.specs.Rows as rows

@@ -1,7 +1,7 @@
 -- What C is told: one number, below 256 a status and from 256 on a refusal, and beside a status eight numbers in lent bytes.
 use Rattle.std.specs.Prelude.{ℕ, ◌+◌, ◌*◌, min, List, [], ◌∷◌, true, false, cond, eqb, leb, length, get_or, drop}
 use Rattle.std.proofs.lemmas.List.Edits.{sets}
-use Rattle.bytes.specs.Bytes.{longs, num64}
+use Rattle.octets.specs.Bytes.{longs, num64}
 use Rattle.items.specs.declared.Stretch.{Stretch}
 use Rattle.items.specs.declared.Stretch.TheVariants as stretch
 use Rattle.names.specs.declared.Kind.TheVariants as kind

@@ -111,7 +111,7 @@ pub extern "C" fn dulimasca_define(
 }
 
 // A kind by its number, and whether there is one.
-#[derive(Drop)]
+#[derive(Clone, Copy)]
 struct KindFor {
     is_one: bool,
     kind: Kind,

@@ -2,7 +2,7 @@
 ghost use Rattle.std.specs.Prelude.{[], ◌∷◌, ◌++◌, ◌≡◌, ◌*◌, ◌<◌, ◌≤◌, ◌^◌, min, length};
 ghost use Rattle.std.proofs.lemmas.List.Edits.{sets};
 ghost use Rattle.reader.specs.Place.{padded};
-ghost use Rattle.bytes.specs.Bytes.{longs};
+ghost use Rattle.octets.specs.Bytes.{longs};
 ghost use Rattle.section.specs.Answers.{paper_of};
 ghost use Rattle.section.specs.declared.Answer.TheVariants.{Over, Refused};
 ghost use Rattle.dulimasca.specs.Told.{packed, packed_by, needed_by, told_length, status_by, place_by, tally_numbers};
@@ -47,7 +47,7 @@ pub(crate) fn tell(numbers: [u64; 8], told: &mut [u8])
     requires { told_length ≤ length told.old }
     ensures { told.new ≡ sets told.old 0 (longs numbers) }
 {
-    bytes::put_longs(told, 0, &numbers);
+    octets::put_longs(told, 0, &numbers);
 }
 
 pub(crate) fn status_by(ending: Ending) -> u64

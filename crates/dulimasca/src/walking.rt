@@ -53,7 +53,7 @@ pub extern "C" fn dulimasca_count(def: &[u8], s: &[u8], told: &mut [u8]) -> u64
 }
 
 // A sort of frames by its number, and whether there is one.
-#[derive(Drop)]
+#[derive(Clone, Copy)]
 struct SortFor {
     is_one: bool,
     sort: Sort,
@@ -111,7 +111,7 @@ pub extern "C" fn dulimasca_fill(
             let looked = walks::fill(d, s, of, k, &mut fields);
             let answer = looked.answer;
             let n = walks::fields_of(d, answer);
-            bytes::put_values(out, 0, &fields[..n]);
+            octets::put_values(out, 0, &fields[..n]);
             tell(fill_numbers(answer, looked.trials as u64), told);
             number(answer)
         }

@@ -1,5 +1,7 @@
 // Events: what stands behind the letter E.
 // The Rust's event.rs takes its closing text ten bytes at once; here each byte is asked for by itself, so that the fault met first decides.
+#![tactic(auto)]
+
 ghost use Rattle.std.specs.Prelude.{◌≡◌};
 ghost use Rattle.reader.specs.Got.{give};
 ghost use Rattle.reader.specs.Place.{rest};
@@ -11,7 +13,7 @@ use decode::variable::variable;
 use reader::{Byte, Cursor, Read};
 
 // The type of an event and its two numbers, absent ones as 0.
-#[derive(Drop)]
+#[derive(Clone, Copy)]
 pub struct Event {
     pub code: u8,
     pub first: u32,
@@ -19,7 +21,7 @@ pub struct Event {
 }
 
 // An event and the place behind it; the data ended inside; or the bytes are no event.
-#[derive(Drop)]
+#[derive(Clone, Copy)]
 pub enum Reading {
     Told(Event, Cursor),
     Cut,

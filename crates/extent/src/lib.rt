@@ -1,5 +1,7 @@
 // What stands at a place of a section: a trial and what becomes of it, or a search.
 // Extents alone: no predictor, no header number and no history has a part in them.
+#![tactic(auto)]
+
 ghost use Rattle.std.specs.Prelude.{◌≡◌};
 ghost use Rattle.plan.specs.Plan.{shape};
 ghost use Rattle.reader.specs.Place.{rest, place_of};
@@ -17,7 +19,7 @@ use raws::{Front, Raw};
 use reader::{Byte, Cursor, Kind, Letter, RestorePoint, Skip, Step};
 
 // An accepted frame. The raw numbers of a main or slow frame stand beside it: an enum holds no array.
-#[derive(Drop)]
+#[derive(Clone, Copy)]
 pub enum Found {
     Event(event::Event),
     Intra,
@@ -27,7 +29,7 @@ pub enum Found {
 
 // What stands at a place: nothing; a byte that starts no frame, and a search; a trial that is rejected, and a search;
 // a trial that the data ends in; an accepted frame, over its kind byte and so many bytes more.
-#[derive(Drop)]
+#[derive(Clone, Copy)]
 pub enum Seen {
     Nothing,
     Passed(Skip),
@@ -37,14 +39,14 @@ pub enum Seen {
 }
 
 // The raw numbers are 0 where no main or slow frame is accepted.
-#[derive(Drop)]
+#[derive(Clone, Copy)]
 pub struct Look {
     pub seen: Seen,
     pub raw: Raw,
 }
 
 // A look but for the raw numbers of the fields, which stand beside it in lent rooms.
-#[derive(Drop)]
+#[derive(Clone, Copy)]
 pub struct Glance {
     pub seen: Seen,
     pub iteration: u32,

@@ -12,7 +12,7 @@ use reader::{Cursor, Step};
 
 // What predictions read beside a field's own lists: what the Rust's PredictorContext is set to field by field, as whole frames;
 // and the place of motor[0] among the fields, or one behind them all.
-#[derive(Drop)]
+#[derive(Clone, Copy)]
 pub struct Context {
     pub motor: usize,
     pub around: Surroundings,
@@ -21,14 +21,14 @@ pub struct Context {
 }
 
 // The raw numbers, which the Rust's read_field_values answers, and the values that its parse_impl makes of them; 0 behind the last field.
-#[derive(Drop)]
+#[derive(Clone, Copy)]
 pub struct FieldValues {
     pub raws: [u32; 62],
     pub values: [u32; 62],
 }
 
 // The place behind the fields, or why there is none: a refusal has document 01's number and place.
-#[derive(Drop)]
+#[derive(Clone, Copy)]
 pub enum Taken {
     Next(Cursor),
     Cut,
@@ -36,7 +36,7 @@ pub enum Taken {
     Refused(u8, usize),
 }
 
-#[derive(Drop)]
+#[derive(Clone, Copy)]
 pub struct FieldReading {
     pub taken: Taken,
     pub fields: FieldValues,

@@ -1,5 +1,7 @@
 // The values of main and slow frames, from their raw numbers and the two main frames before.
 // The second half of the Rust's frame/mod.rs, with parse_intra and parse_inter of main/def.rs.
+#![tactic(auto)]
+
 ghost use Rattle.std.specs.Prelude.{◌≡◌, ◌+◌, ◌≤◌, min, length, replicate};
 ghost use Rattle.bits.specs.Pattern.{wrap};
 ghost use Rattle.predictor.specs.Owes.{given};
@@ -16,7 +18,7 @@ pub mod fields;
 mod time;
 
 // Whether there is a frame, and of which kind.
-#[derive(Drop)]
+#[derive(Clone, Copy)]
 pub enum Mark {
     Absent,
     Intra,
@@ -24,7 +26,7 @@ pub enum Mark {
 }
 
 // A main frame: the Rust's RawMainFrame, with its Option as a mark. Values behind the last field are 0.
-#[derive(Drop)]
+#[derive(Clone, Copy)]
 pub struct MainFrame {
     pub mark: Mark,
     pub iteration: u32,
@@ -33,7 +35,7 @@ pub struct MainFrame {
 }
 
 // A main frame but for its values, which stand beside it in lent rooms. Each frame that is made in such rooms first makes them 0.
-#[derive(Drop)]
+#[derive(Clone, Copy)]
 pub struct Head {
     pub mark: Mark,
     pub iteration: u32,

@@ -8,7 +8,7 @@ use plan::{Definition, Main, Numbers, Settings, Slow};
 use words::three::Three;
 
 // A definition, and whether the words are one. Words that are none give a definition with no fields.
-#[derive(Drop)]
+#[derive(Clone, Copy)]
 pub struct Defined {
     pub is: bool,
     pub definition: Definition,

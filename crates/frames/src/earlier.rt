@@ -5,13 +5,13 @@ use digits::Number;
 use frame::{MainFrame, Mark};
 
 // A frame or none, and whether it is written rightly.
-#[derive(Drop)]
+#[derive(Clone, Copy)]
 pub struct Earlier {
     pub is_right: bool,
     pub frame: MainFrame,
 }
 
-#[derive(Drop)]
+#[derive(Clone, Copy)]
 struct Values {
     are: bool,
     values: [u32; 62],

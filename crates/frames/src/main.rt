@@ -1,5 +1,7 @@
 // Runs predictors, frames and fields by lists on cases from standard input, up to 65,536 bytes of them, and prints each case, or its label, with its answer.
 // A case is a line, so that vectors are data and not code: vectors/README.md says what cases there are and how they are made.
+#![tactic(auto)]
+
 use libc::STDIN_FILENO;
 
 mod define;

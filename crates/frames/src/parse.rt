@@ -5,14 +5,14 @@ use digits::Number;
 use words::Byte;
 
 // A 32-bit pattern.
-#[derive(Drop)]
+#[derive(Clone, Copy)]
 pub enum Pattern {
     Is(u32),
     Wrong,
 }
 
 // Up to 62 codes, of encodings or of predictors. What is written wrongly has none.
-#[derive(Drop)]
+#[derive(Clone, Copy)]
 pub struct Codes {
     pub are: bool,
     pub n: usize,
@@ -20,7 +20,7 @@ pub struct Codes {
 }
 
 // The fields of a frame: as many encodings as predictors.
-#[derive(Drop)]
+#[derive(Clone, Copy)]
 pub struct Fields {
     pub are: bool,
     pub n: usize,

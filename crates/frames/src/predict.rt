@@ -6,7 +6,7 @@ use words::Byte;
 use words::three::Three;
 
 // A field of some predictor, and what it had in the frames before.
-#[derive(Drop)]
+#[derive(Clone, Copy)]
 struct Field {
     predictor: u8,
     signed: bool,
@@ -14,7 +14,7 @@ struct Field {
 }
 
 // One of the two histories: - where it is absent.
-#[derive(Drop)]
+#[derive(Clone, Copy)]
 struct Past {
     is_right: bool,
     is: bool,

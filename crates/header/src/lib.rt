@@ -1,5 +1,7 @@
 // A log's header: where its `H ` lines carry the definition's lists, and where the section begins behind them.
 // The Rust reads the header line by line into builders; here each list is looked up by the beginning of its line.
+#![tactic(auto)]
+
 ghost use Rattle.std.specs.Prelude.{◌≡◌, ◌+◌, ◌≤◌, min, length, drop};
 ghost use Rattle.items.specs.Text.{ascii};
 ghost use Rattle.header.specs.Header.{newer, lists_of};
@@ -9,7 +11,7 @@ ghost use Rattle.header.specs.Owes.{ValueOwes, ReadOwes};
 use items::{Lists, MainLists, SlowLists, Stretch};
 
 // The lists, as stretches of the log, and the place of the section's first byte.
-#[derive(Drop)]
+#[derive(Clone, Copy)]
 pub struct Header {
     pub lists: Lists,
     pub section: usize,

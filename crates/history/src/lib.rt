@@ -1,12 +1,14 @@
 // The two main frames before the next: the Rust's MainFrameHistory, data.rs.
 // Each step takes the history and hands it back; one thin push takes it by exclusive reference.
+#![tactic(auto)]
+
 ghost use Rattle.std.specs.Prelude.{◌≡◌};
 ghost use Rattle.history.specs.History.{in_order};
 ghost use Rattle.history.specs.Owes.{EmptyOwes, PushedOwes, IsSoundOwes, HeadPushedOwes, WithOwes, HeadsOwes, PushValuesOwes};
 
 use frame::{Head, MainFrame, Mark};
 
-#[derive(Drop)]
+#[derive(Clone, Copy)]
 pub struct History {
     pub last: MainFrame,
     pub older: MainFrame,
@@ -62,7 +64,7 @@ impl History {
 }
 
 // The history but for the values of its frames, which stand beside it in lent rooms.
-#[derive(Drop)]
+#[derive(Clone, Copy)]
 pub struct Heads {
     pub last: Head,
     pub older: Head,

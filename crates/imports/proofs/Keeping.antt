@@ -22,7 +22,7 @@ use Rattle.definition.specs.Defined.{Answer, main_items, no_slow_lists, slow_ite
 use Rattle.definition.specs.MainLists.{Items, MainItems, rounds, fields_from, motor_from, main_of}
 use Rattle.definition.specs.SlowLists.{slow_rounds, slow_of}
 use Rattle.definition.proofs.Sound.{defined_refused_has_no_fields, defined_accepted_has_its_fields, defined_counts}
-use Rattle.bytes.proofs.Round.{Bytes}
+use Rattle.octets.proofs.Round.{Bytes}
 use Rattle.settings.specs.Said.{said_of}
 use Rattle.settings.specs.Stored.{settings_length, are_settings, numbers_in, settings_in, settings_bytes}
 use Rattle.settings.proofs.Kept.{Sized, chosen_sized, said_sized, are_settings_kept, numbers_kept, settings_kept, with_settings_law}

@@ -1,5 +1,7 @@
 // The items of comma-separated texts: where one stands, and what the first 64 say, as a byte each.
 // The Rust splits a list lazily and zips the pieces; here a list is read once, into a row, and the rounds run over rows.
+#![tactic(auto)]
+
 ghost use Rattle.std.specs.Prelude.{◌≡◌, ◌+◌, ◌≤◌, length, drop, set};
 ghost use Rattle.items.specs.Owes.{ReadRowOwes, ItemAtOwes, IsAbsentOwes, IsGivenOwes, PartOwes};
 ghost use Rattle.items.specs.Width.{width};
@@ -9,14 +11,14 @@ mod said;
 use said::code;
 
 // A stretch of a text, from its first byte to behind its last.
-#[derive(Drop)]
+#[derive(Clone, Copy)]
 pub enum Stretch {
     At(usize, usize),
     Absent,
 }
 
 // The lists of a main definition, 0 to 5.
-#[derive(Drop)]
+#[derive(Clone, Copy)]
 pub struct MainLists {
     pub names: Stretch,
     pub intra_predictors: Stretch,
@@ -27,7 +29,7 @@ pub struct MainLists {
 }
 
 // The lists of a slow definition: 0, 1, 3 and 5.
-#[derive(Drop)]
+#[derive(Clone, Copy)]
 pub struct SlowLists {
     pub names: Stretch,
     pub predictors: Stretch,
@@ -36,14 +38,14 @@ pub struct SlowLists {
 }
 
 // All lists of a log, as stretches of one text.
-#[derive(Drop)]
+#[derive(Clone, Copy)]
 pub struct Lists {
     pub main: MainLists,
     pub slow: SlowLists,
 }
 
 // What a list is a list of.
-#[derive(Drop)]
+#[derive(Clone, Copy)]
 pub enum Of {
     Names,
     Predictors,
@@ -62,7 +64,7 @@ pub const TIME: u8 = 2;
 pub const MOTOR_0: u8 = 3;
 
 // How many items a list has, and what each of the first 64 says.
-#[derive(Drop)]
+#[derive(Clone, Copy)]
 pub struct Row {
     pub count: usize,
     pub codes: [u8; 64],

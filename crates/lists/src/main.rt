@@ -1,5 +1,7 @@
 // Runs the definition of lists on cases from standard input, up to 131,072 bytes of them, and prints each case's label with its answer.
 // A case is a line, so that vectors are data and not code: vectors/README.md says what cases there are and how they are made.
+#![tactic(auto)]
+
 ghost use Rattle.std.specs.Prelude.{◌≡◌, length};
 
 use libc::STDIN_FILENO;

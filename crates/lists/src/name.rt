@@ -5,7 +5,7 @@ use items::Stretch;
 use names::Kind;
 use words::escapes;
 
-#[derive(Drop)]
+#[derive(Clone, Copy)]
 enum Word {
     Is(Kind),
     Wrong,

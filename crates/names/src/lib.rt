@@ -1,5 +1,7 @@
 // The names of fields: a definition keeps none, so the log's lists of names are lent with each question.
 // A name is a stretch of the lent list; where it stands is a separate answer, which tells an empty name from none.
+#![tactic(auto)]
+
 ghost use Rattle.std.specs.Prelude.{cond, ◌≡◌, ltb};
 ghost use Rattle.items.specs.declared.Stretch.TheVariants.{Absent};
 ghost use Rattle.items.specs.Items.{item_at};
@@ -9,7 +11,7 @@ use items::Stretch;
 use plan::Definition;
 
 // Which of a log's definitions a field belongs to.
-#[derive(Drop)]
+#[derive(Clone, Copy)]
 pub enum Kind {
     Main,
     Slow,

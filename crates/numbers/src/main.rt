@@ -1,5 +1,7 @@
 // Runs the readers of numbers on cases from standard input, up to 65,536 bytes of them, and prints each case with its answer.
 // A case is a line `READER GROUP PLACE BYTES`, so that vectors are data and not code: vectors/README.md says how they are made.
+#![tactic(auto)]
+
 use decode::negative_14_bit::negative_14_bit;
 use decode::tagged_variable::tagged_variable;
 use decode::variable::{variable, variable_signed};
@@ -11,7 +13,7 @@ use tagged::tagged_32::tagged_32;
 
 mod show;
 
-#[derive(Drop)]
+#[derive(Clone, Copy)]
 enum Reader {
     VariableSigned,
     Variable,
@@ -24,7 +26,7 @@ enum Reader {
     Search,
 }
 
-#[derive(Drop)]
+#[derive(Clone, Copy)]
 enum Named {
     Is(Reader),
     Nothing,

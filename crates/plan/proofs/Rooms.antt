@@ -24,8 +24,8 @@ use Rattle.plan.specs.contracts.Slow as slow
 -- ## Lengths
 
 -- of a field that is an array of n bytes
-rooms : (n : ℕ) (l : List ℕ) {vs : List Val} → Is (array_field u8-field n).row (map (λ v. v) l) vs → length l ≡ n
-rooms n l g = sym (length-map l (λ v. v)) ∙ g.1.0.1
+rooms : (n : ℕ) (l : List ℕ) {vs : List Val} → Is (array_field u8-field n).row l vs → length l ≡ n
+rooms n l g = g.1.0.1
 
 pub record MainRooms (m : Main) : Type 0 where
   pub intra_predictors : length m.intra_predictors ≡ 62

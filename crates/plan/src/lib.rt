@@ -1,5 +1,7 @@
 // The definition of a log's frames, as the walk uses it: the fields' predictors and encodings, and what these rest on.
 // The Rust keeps a vector of field records; here each property is an array of 62 rooms (slow: 16), 0 behind the last field.
+#![tactic(auto)]
+
 ghost use Rattle.std.specs.Prelude.{◌≡◌, min, length};
 ghost use Rattle.plan.specs.Known.{among, predictors, encodings};
 ghost use Rattle.plan.specs.Owes.{CodeOwes, OfOwes, FieldsOwes, IsIntervalOwes, PlainOwes, NothingOwes};
@@ -7,7 +9,7 @@ ghost use Rattle.plan.specs.Owes.{UnmetMainOwes, UnmetSlowOwes, AreSoundOwes, Is
 ghost use Rattle.plan.specs.Sound.{is_given, met, found, unmet_from, is_met, known, sound_main, sound_slow};
 
 // The main frames: the items of each list (0 where refused, 2 with no fields), and the fields behind loopIteration and time.
-#[derive(Drop)]
+#[derive(Clone, Copy)]
 pub struct Main {
     pub n: usize,
     // The first field named motor[0], or the number of fields where there is none.
@@ -21,7 +23,7 @@ pub struct Main {
 }
 
 // The slow frames: the items of each list, all of them fields; 0 where there are no slow frames.
-#[derive(Drop)]
+#[derive(Clone, Copy)]
 pub struct Slow {
     pub n: usize,
     pub predictors: [u8; 16],
@@ -30,14 +32,14 @@ pub struct Slow {
 }
 
 // A number that stands in a log's header, or does not.
-#[derive(Drop)]
+#[derive(Clone, Copy)]
 pub enum HeaderNumber {
     Absent,
     Given(u16),
 }
 
 // The header numbers that predictors 4, 9 and 11 use.
-#[derive(Drop)]
+#[derive(Clone, Copy)]
 pub struct Numbers {
     pub min_throttle: HeaderNumber,
     pub vbat_reference: HeaderNumber,
@@ -45,7 +47,7 @@ pub struct Numbers {
 }
 
 // How often loop iterations are logged: every so many an intra frame, and of so many so many at all.
-#[derive(Drop)]
+#[derive(Clone, Copy)]
 pub struct FrameInterval {
     pub intra: u32,
     pub numerator: u32,
@@ -53,12 +55,12 @@ pub struct FrameInterval {
 }
 
 // What is chosen beside the lists and the header numbers.
-#[derive(Drop)]
+#[derive(Clone, Copy)]
 pub struct Settings {
     pub interval: FrameInterval,
 }
 
-#[derive(Drop)]
+#[derive(Clone, Copy)]
 pub struct Definition {
     pub main: Main,
     pub slow: Slow,
@@ -67,7 +69,7 @@ pub struct Definition {
 }
 
 // Whether all predictors have what they need, or the first field with one that lacks something.
-#[derive(Drop)]
+#[derive(Clone, Copy)]
 pub enum Need {
     Met,
     Unmet(usize),

@@ -1,5 +1,7 @@
 // What each predictor says of a field, from the frames before it and the log's header; and the value that a raw number makes with it.
 // The Rust's Predictor::apply. Values are 32-bit patterns: only predictors 2 and 3 ask whether they are signed, by the encoding.
+#![tactic(auto)]
+
 ghost use Rattle.std.specs.Prelude.{◌≡◌, ◌+◌, ◌^◌, false};
 ghost use Rattle.bits.specs.Pattern.{pattern, wrap};
 ghost use Rattle.predictor.specs.Owes.{IsSignedOwes, StraightLineOwes, PredictOwes, ApplyOwes, last_of, older_of};
@@ -10,14 +12,14 @@ ghost use Rattle.predictor.specs.Sign.{fits, value_of};
 use plan::{HeaderNumber, Numbers};
 
 // What the predictors of a frame look at besides its histories.
-#[derive(Drop)]
+#[derive(Clone, Copy)]
 pub struct Surroundings {
     pub numbers: Numbers,
     pub skipped: u32,
 }
 
 // What stood in a field before: in the last frame and in the older one, each there or not.
-#[derive(Drop)]
+#[derive(Clone, Copy)]
 pub struct Before {
     pub has_last: bool,
     pub last: u32,

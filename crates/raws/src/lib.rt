@@ -1,5 +1,7 @@
 // The raw numbers of main and slow frames: where a frame's fields end, and whether it is cut or corrupt.
 // The first half of the Rust's frame/mod.rs; predictors and histories have no part in it.
+#![tactic(auto)]
+
 ghost use Rattle.std.specs.Prelude.{◌≡◌, length, take, replicate};
 ghost use Rattle.reader.specs.Got.{over};
 ghost use Rattle.reader.specs.Place.{rest};
@@ -16,7 +18,7 @@ use reader::{Cursor, Read, Step};
 mod groups;
 
 // The numbers of a frame: 0 where its kind has none, and behind the last field. An inter frame's time is its offset.
-#[derive(Drop)]
+#[derive(Clone, Copy)]
 pub struct Raw {
     pub iteration: u32,
     pub time: u32,
@@ -24,14 +26,14 @@ pub struct Raw {
 }
 
 // Where reading goes on, or why it does not: then every number is 0. An enum holds no array, so the numbers stand beside it.
-#[derive(Drop)]
+#[derive(Clone, Copy)]
 pub struct Reading {
     pub step: Step,
     pub raw: Raw,
 }
 
 // A reading but for the numbers of the fields, which stand beside it in lent rooms.
-#[derive(Drop)]
+#[derive(Clone, Copy)]
 pub struct Front {
     pub step: Step,
     pub iteration: u32,

@@ -1,28 +1,30 @@
 // Where a section is read: places, one byte, the kinds of frames and the search for the next.
 // The Rust's Reader holds its data; here the section is lent to each call, and a place goes in and comes out.
+#![tactic(auto)]
+
 ghost use Rattle.std.specs.Prelude.{◌≡◌};
 ghost use Rattle.reader.specs.Owes.{GetRestorePointOwes, RestoreOwes, StoppedOwes, ReadU8Owes, FromByteOwes, SkipToFrameOwes};
 ghost use Rattle.reader.specs.Search.{letter_of, searched};
 
 // The place of the next byte to read.
-#[derive(Drop)]
+#[derive(Clone, Copy)]
 pub struct Cursor {
     pub at: usize,
 }
 
 // A place to go back to, never a count or a length: behind a trial's kind byte, where the search begins if the trial is rejected.
-#[derive(Drop)]
+#[derive(Clone, Copy)]
 pub struct RestorePoint(pub usize);
 
 // A byte and the place behind it.
-#[derive(Drop)]
+#[derive(Clone, Copy)]
 pub enum Byte {
     Here(u8, Cursor),
     End,
 }
 
 // A number, as a 32-bit pattern, and the place behind it; the data ended inside; or the bytes are no number.
-#[derive(Drop)]
+#[derive(Clone, Copy)]
 pub enum Read {
     Num(u32, Cursor),
     Cut,
@@ -30,7 +32,7 @@ pub enum Read {
 }
 
 // Where reading goes on, or why it does not.
-#[derive(Drop)]
+#[derive(Clone, Copy)]
 pub enum Step {
     Next(Cursor),
     Cut,
@@ -38,14 +40,14 @@ pub enum Step {
 }
 
 // The numbers of a group, as 32-bit patterns, and zeros behind them. An enum holds no array, so they stand beside it.
-#[derive(Drop)]
+#[derive(Clone, Copy)]
 pub struct Group {
     pub step: Step,
     pub values: [u32; 8],
 }
 
 // The kinds of frames, by their letters E I P G H S.
-#[derive(Drop)]
+#[derive(Clone, Copy)]
 pub enum Kind {
     Event,
     Intra,
@@ -56,14 +58,14 @@ pub enum Kind {
 }
 
 // What a byte stands for where a frame may begin.
-#[derive(Drop)]
+#[derive(Clone, Copy)]
 pub enum Letter {
     Is(Kind),
     Other,
 }
 
 // How far a search goes, and whether it found nothing: then no later place has anything to find.
-#[derive(Drop)]
+#[derive(Clone, Copy)]
 pub struct Skip {
     pub by: usize,
     pub barren: bool,

@@ -1,5 +1,7 @@
 // Fields read by their records: one thin entry over a lent slice, the Rust's read_field_values in frame/mod.rs, and a by-value door to it.
 // The entry makes no value of its own: it hands each record whole to a covered step, and what is gathered to the reader of crate frame.
+#![tactic(auto)]
+
 ghost use Rattle.std.specs.Prelude.{◌≡◌, ◌<◌, min};
 ghost use Rattle.records.specs.Gathered.{none_yet, with, by_gathered};
 ghost use Rattle.records.specs.Owes.{ReadFieldValuesOwes, ReadRecordsOwes};
@@ -8,7 +10,7 @@ use frame::fields::{Context, FieldReading};
 use reader::Cursor;
 
 // A field of one kind of frame. Its sign is for display: no reading asks for it.
-#[derive(Drop)]
+#[derive(Clone, Copy)]
 pub struct FieldDef {
     pub predictor: u8,
     pub encoding: u8,
@@ -16,7 +18,7 @@ pub struct FieldDef {
 }
 
 // The encodings and predictors of the records so far, 0 behind the last.
-#[derive(Drop)]
+#[derive(Clone, Copy)]
 struct Gathered {
     encodings: [u8; 62],
     predictors: [u8; 62],

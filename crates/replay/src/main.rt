@@ -1,5 +1,7 @@
 // Prints the sessions of logs from standard input, up to 1,048,576 bytes of them, each behind its label.
 // A log is a line, so that vectors are data and not code: vectors/README.md says what logs there are and how they are made.
+#![tactic(auto)]
+
 ghost use Rattle.std.specs.Prelude.{◌≡◌, ◌≤◌, length};
 
 use libc::{STDIN_FILENO, STDOUT_FILENO};
@@ -13,7 +15,7 @@ const LONGEST: usize = 8192;
 
 // What the last line `lists` says of the logs behind it: the first so many bytes of their buffer, and their header numbers; and what the last
 // line `set` does, their settings.
-#[derive(Drop)]
+#[derive(Clone, Copy)]
 struct Common {
     length: usize,
     numbers: Numbers,

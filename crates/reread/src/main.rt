@@ -1,5 +1,7 @@
 // Walks the section of a log from standard input and reads each main frame a second time by the two forms by reference: its fields by records that are lent
 // as a slice, behind the frames of a history that is pushed to where it stands. No more than 65,536 bytes are read: a longer log is taken to end there.
+#![tactic(auto)]
+
 ghost use Rattle.std.specs.Prelude.{true, ◌≡◌};
 ghost use Rattle.plan.specs.Sound.{sound};
 

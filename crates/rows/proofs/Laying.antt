@@ -13,7 +13,7 @@ use Rattle.plan.specs.declared.Definition.{Definition}
 use Rattle.section.specs.declared.Check.TheVariants as check
 use Rattle.section.specs.declared.Walk.{Walk}
 use Rattle.section.specs.Answers.{found, is_over}
-use Rattle.bytes.proofs.Stores.{then_put}
+use Rattle.octets.proofs.Stores.{then_put}
 use Rattle.calls.specs.declared.Called.{Called}
 use Rattle.calls.specs.Call.{called}
 use Rattle.calls.specs.Steps.{Steps}

@@ -15,8 +15,8 @@ use Rattle.section.specs.declared.Answer.{Answer}
 use Rattle.section.specs.declared.Answer.TheVariants.{Passed, Rejected, Event, Intra, Inter, Slow, Over, Refused}
 use Rattle.section.specs.Refusals.{larger, needed}
 use Rattle.section.specs.Walk.{Outcome}
-use Rattle.bytes.specs.Bytes.{le32, le64, words}
-use Rattle.bytes.proofs.Stores.{then_put, length_words}
+use Rattle.octets.specs.Bytes.{le32, le64, words}
+use Rattle.octets.proofs.Stores.{then_put, length_words}
 use Rattle.rows.specs.declared.Heading.{Heading}
 use Rattle.rows.specs.Lent.{row_beside}
 use Rattle.rows.specs.Rows.{Row, width, row_length, row_for, row_bytes, row_of}

@@ -15,7 +15,7 @@ use Rattle.section.specs.Answers.{Finding, found, is_over}
 use Rattle.section.specs.Refusals.{admitted, larger, needed}
 use Rattle.section.specs.Walk.{Outcome}
 use Rattle.calls.specs.Call.{called}
-use Rattle.bytes.specs.Bytes.{le32, le64, words}
+use Rattle.octets.specs.Bytes.{le32, le64, words}
 use Rattle.rows.specs.declared.Laid.{Laid}
 
 -- ## A row

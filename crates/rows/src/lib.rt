@@ -1,5 +1,7 @@
 // Rows: the accepted frames of a walk as bytes of one length, as many as a lent buffer has room for, and the walk behind them.
 // A walk that goes on from there gives the rows that follow, so that a section of any length is imported through a small buffer.
+#![tactic(auto)]
+
 ghost use Rattle.std.specs.Prelude.{true, ◌≡◌, ◌+◌, ◌*◌, ◌/◌, ◌≤◌, length};
 ghost use Rattle.std.proofs.lemmas.List.Edits.{sets};
 ghost use Rattle.section.specs.Refusals.{admitted};
@@ -12,7 +14,7 @@ use plan::Definition;
 use section::{Answer, Check, Refusal, Walk};
 
 // What a row says of a frame before its values: its letter, iteration, place and time. What a frame does not have is 0.
-#[derive(Drop)]
+#[derive(Clone, Copy)]
 pub struct Heading {
     pub letter: u32,
     pub iteration: u32,
@@ -21,7 +23,7 @@ pub struct Heading {
 }
 
 // How many rows were laid out, and the walk behind them; or why none was.
-#[derive(Drop)]
+#[derive(Clone, Copy)]
 pub struct Laid {
     pub check: Check,
     pub count: usize,
@@ -86,11 +88,11 @@ fn put_row(out: &mut [u8], at: usize, n: usize, r: Heading, values: &[u32; 62])
     ensures { out.new ≡ sets out.old at (row_bytes n (row_beside r values.now)) }
 {
     let all = &values[..];
-    bytes::put32(out, at, r.letter);
-    bytes::put32(out, at + 4, r.iteration);
-    bytes::put64(out, at + 8, r.place as u64);
-    bytes::put64(out, at + 16, r.time);
-    bytes::put_values(out, at + 24, &all[..n]);
+    octets::put32(out, at, r.letter);
+    octets::put32(out, at + 4, r.iteration);
+    octets::put64(out, at + 8, r.place as u64);
+    octets::put64(out, at + 16, r.time);
+    octets::put_values(out, at + 24, &all[..n]);
 }
 
 // The rows of an admitted walk. The state is checked once, and a barren search is made once; the values of its frames stay in the same rooms throughout.

@@ -1,5 +1,7 @@
 // The walk over a section: one look, and what it does to each part of the walk's state. The Rust's data.rs.
 // A walk is a value: every function takes it and hands it back, and its history with it.
+#![tactic(auto)]
+
 ghost use Rattle.std.specs.Prelude.{true, ◌≡◌, min};
 ghost use Rattle.std.proofs.Math.ListN as ListN;
 ghost use Rattle.section.specs.Answers.{told, handed};
@@ -21,7 +23,7 @@ pub mod quick;
 pub mod refusals;
 
 // How a walk ended, if it has. A cut names the kind and the place of the trial that the data ended in.
-#[derive(Drop)]
+#[derive(Clone, Copy)]
 pub enum Ending {
     Going,
     Done,
@@ -30,7 +32,7 @@ pub enum Ending {
 }
 
 // Where a walk stands, and what it has counted: accepted main, event and slow frames, rejected trials; and all its trials, a final cut included.
-#[derive(Drop)]
+#[derive(Clone, Copy)]
 pub struct Tally {
     pub place: usize,
     pub ending: Ending,
@@ -38,46 +40,46 @@ pub struct Tally {
     pub trials: usize,
 }
 
-#[derive(Drop)]
+#[derive(Clone, Copy)]
 pub struct Walk {
     pub tally: Tally,
     pub history: History,
 }
 
 // An accepted main frame: the place of its kind byte, its iteration and its time.
-#[derive(Drop)]
+#[derive(Clone, Copy)]
 pub struct MainAnswer {
     pub at: usize,
     pub iteration: u32,
     pub time: u64,
 }
 
-#[derive(Drop)]
+#[derive(Clone, Copy)]
 pub struct EventAnswer {
     pub at: usize,
     pub event: Event,
 }
 
-#[derive(Drop)]
+#[derive(Clone, Copy)]
 pub struct SlowAnswer {
     pub at: usize,
 }
 
 // Why a call is refused: the definition or the walk is none that there can be (10), or the value buffer is shorter than it must be (11).
-#[derive(Drop)]
+#[derive(Clone, Copy)]
 pub enum Refusal {
     Unsound,
     TooShort(usize),
 }
 
-#[derive(Drop)]
+#[derive(Clone, Copy)]
 pub enum Check {
     Pass,
     Refused(Refusal),
 }
 
 // What a look answers. The first two are in vain, and no call answers them: a byte that starts no frame, and a rejected trial with its kind and place.
-#[derive(Drop)]
+#[derive(Clone, Copy)]
 pub enum Answer {
     Passed,
     Rejected(Kind, usize),
@@ -90,7 +92,7 @@ pub enum Answer {
 }
 
 // An answer, the trials so far, and the walk behind it.
-#[derive(Drop)]
+#[derive(Clone, Copy)]
 pub struct Looked {
     pub answer: Answer,
     pub trials: usize,

@@ -16,14 +16,14 @@ use history::Heads;
 use plan::Definition;
 
 // A walk but for the values of its main frames.
-#[derive(Drop)]
+#[derive(Clone, Copy)]
 pub struct Light {
     pub tally: Tally,
     pub heads: Heads,
 }
 
 // An answer, and the walk behind it.
-#[derive(Drop)]
+#[derive(Clone, Copy)]
 pub struct Settled {
     pub answer: Answer,
     pub walk: Light,

@@ -1,5 +1,7 @@
 // A log's session as document 01 prints it: the frames that a walk through its section finds, or why there is none.
 // H lines may have 16,384 bytes and the section 65,536; more is too long.
+#![tactic(auto)]
+
 ghost use Rattle.std.specs.Prelude.{true, ◌≡◌, ◌≤◌, length};
 ghost use Rattle.plan.specs.Sound.{sound};
 

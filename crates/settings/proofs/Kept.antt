@@ -13,9 +13,9 @@ use Rattle.plan.specs.declared.HeaderNumber.TheVariants.{Absent, Given}
 use Rattle.plan.specs.declared.Numbers.{Numbers}
 use Rattle.plan.specs.declared.Settings.{Settings}
 use Rattle.plan.specs.Plan.{number_code, number_of, no_numbers, plain}
-use Rattle.bytes.specs.Bytes.{le32, words, num32}
+use Rattle.octets.specs.Bytes.{le32, words, num32}
 use Rattle.plan.proofs.Codes.{NumberSized, number_code_small, number_of_code}
-use Rattle.bytes.proofs.Round.{num_le, Bytes, bytes_drop, num32_small}
+use Rattle.octets.proofs.Round.{num_le, Bytes, bytes_drop, num32_small}
 use Rattle.settings.specs.Said.{said_of}
 use Rattle.settings.specs.Stored.{are_settings, setting_at, numbers_in, settings_in, settings_bytes, with_settings}
 use Rattle.settings.proofs.Fits.{Small, numbers_fit, interval_fits}

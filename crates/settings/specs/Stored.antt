@@ -5,7 +5,7 @@ use Rattle.std.proofs.lemmas.List.Edits.{sets}
 use Rattle.plan.specs.declared.Numbers.{Numbers}
 use Rattle.plan.specs.declared.Settings.{Settings}
 use Rattle.plan.specs.Plan.{number_code, number_of}
-use Rattle.bytes.specs.Bytes.{words, num32}
+use Rattle.octets.specs.Bytes.{words, num32}
 
 abbrev pub settings_length : ℕ
 settings_length = 24

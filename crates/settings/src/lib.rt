@@ -1,5 +1,7 @@
 // What a log's own header lines say beside its lists: three header numbers, and how often intra and inter frames are logged.
 // The last line of each name counts. What cannot be read is an absent number, or an interval of 0, which check 9 refuses.
+#![tactic(auto)]
+
 ghost use Rattle.std.specs.Prelude.{◌≡◌, ◌+◌, drop};
 ghost use Rattle.header.specs.Header.{value_of};
 ghost use Rattle.items.specs.Items.{part};
@@ -19,14 +21,14 @@ const LARGEST_16: usize = 65535;
 
 const LARGEST_32: usize = 4294967295;
 
-#[derive(Drop)]
+#[derive(Clone, Copy)]
 pub struct Said {
     pub numbers: Numbers,
     pub interval: FrameInterval,
 }
 
 // How often inter frames are logged: N in D.
-#[derive(Drop)]
+#[derive(Clone, Copy)]
 struct Ratio {
     numerator: u32,
     denominator: u32,

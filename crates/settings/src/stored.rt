@@ -30,7 +30,7 @@ fn setting(s: &[u8], at: usize, default: u32) -> u32
     if s.len() < at + 4 {
         return default;
     }
-    bytes::take32(s, at)
+    octets::take32(s, at)
 }
 
 pub fn numbers_in(s: &[u8]) -> Numbers
@@ -72,6 +72,6 @@ pub fn put(buf: &mut [u8], numbers: Numbers, settings: Settings)
             interval.numerator,
             interval.denominator,
         ];
-        bytes::put_values(buf, 0, &all);
+        octets::put_values(buf, 0, &all);
     }
 }

@@ -19,8 +19,8 @@ use Rattle.plan.specs.declared.Slow.{Slow}
 use Rattle.plan.specs.Plan.{number_code, number_of}
 use Rattle.plan.proofs.Rooms.{MainRooms, SlowRooms, slow_rooms}
 use Rattle.plan.specs.contracts.Slow as slow
-use Rattle.bytes.specs.Bytes.{le32, le64, num64}
-use Rattle.bytes.proofs.Stores.{then_put, length_le64}
+use Rattle.octets.specs.Bytes.{le32, le64, num64}
+use Rattle.octets.proofs.Stores.{then_put, length_le64}
 use Rattle.store.specs.declared.TakenDefinition.{TakenDefinition}
 use Rattle.store.specs.Definition.{fitting, count_bytes, main_bytes, slow_bytes, settings_bytes, definition_bytes}
 use Rattle.store.specs.Definition.{with_definition, codes_at, definition_at, is_definition, no_definition, taken_definition}

@@ -23,8 +23,8 @@ use Rattle.plan.specs.contracts.HeaderNumber as header
 use Rattle.plan.specs.Sound.{sound}
 use Rattle.plan.proofs.Rooms.{MainRooms, main_rooms}
 use Rattle.plan.proofs.Sound.{interval_parts, sound_interval}
-use Rattle.bytes.specs.Bytes.{le32, le64, num64}
-use Rattle.bytes.proofs.Round.{num_le64}
+use Rattle.octets.specs.Bytes.{le32, le64, num64}
+use Rattle.octets.proofs.Round.{num_le64}
 use Rattle.sizes.specs.Sized.{Is32, Is64}
 use Rattle.store.specs.Definition.{fitting, count_bytes, main_bytes, slow_bytes, settings_bytes}
 use Rattle.store.specs.Definition.{definition_bytes, with_definition, codes_at, definition_at, is_definition}

@@ -19,8 +19,8 @@ use Rattle.section.specs.declared.Ending.{Ending}
 use Rattle.section.specs.declared.Ending.TheVariants.{Going, Done, Out, Cut}
 use Rattle.section.specs.declared.Tally.{Tally}
 use Rattle.section.specs.declared.Walk.{Walk}
-use Rattle.bytes.specs.Bytes.{le32, le64, words, num32, num64, nums}
-use Rattle.bytes.proofs.Round.{Bytes, Small, num_le, num_le64, nums_words, bytes_drop, num32_small, num64_small, nums_small, length_nums}
+use Rattle.octets.specs.Bytes.{le32, le64, words, num32, num64, nums}
+use Rattle.octets.proofs.Round.{Bytes, Small, num_le, num_le64, nums_words, bytes_drop, num32_small, num64_small, nums_small, length_nums}
 use Rattle.sizes.specs.Sized.{Is32, Is64, Each, EndingSized, FrameSized, TallySized, WalkSized}
 use Rattle.store.specs.State.{mark_code, mark_of, is_mark, ending_code, cut_place, cut_by, ending_of, is_letter, is_ending}
 use Rattle.store.specs.State.{frame_bytes, frame_at, tally_bytes, tally_at, state_bytes, with_state, walk_at, is_state}

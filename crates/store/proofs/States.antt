@@ -15,8 +15,8 @@ use Rattle.frame.specs.declared.Mark.{Mark}
 use Rattle.section.specs.declared.Ending.{Ending}
 use Rattle.section.specs.declared.Tally.{Tally}
 use Rattle.section.specs.declared.Walk.{Walk}
-use Rattle.bytes.specs.Bytes.{le32, le64, words, num32, num64, nums}
-use Rattle.bytes.proofs.Stores.{length_words, then_put}
+use Rattle.octets.specs.Bytes.{le32, le64, words, num32, num64, nums}
+use Rattle.octets.proofs.Stores.{length_words, then_put}
 use Rattle.store.specs.declared.TakenState.{TakenState}
 use Rattle.store.specs.State.{state_version, mark_code, mark_of, is_mark, ending_code, cut_place, cut_by, ending_of, is_letter, is_ending}
 use Rattle.store.specs.State.{frame_bytes, frame_at, tally_bytes, tally_at, state_bytes, with_state, walk_at, is_state, no_state, taken_state}

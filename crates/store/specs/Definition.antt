@@ -8,7 +8,7 @@ use Rattle.plan.specs.declared.Main.{Main}
 use Rattle.plan.specs.declared.Settings.{Settings}
 use Rattle.plan.specs.declared.Slow.{Slow}
 use Rattle.plan.specs.Plan.{number_code, number_of, nothing}
-use Rattle.bytes.specs.Bytes.{le64, num64}
+use Rattle.octets.specs.Bytes.{le64, num64}
 use Rattle.store.specs.declared.TakenDefinition.{TakenDefinition}
 
 abbrev pub definition_version : ℕ

@@ -14,7 +14,7 @@ use Rattle.section.specs.declared.Ending.TheVariants.{Going, Done, Out, Cut}
 use Rattle.section.specs.declared.Tally.{Tally}
 use Rattle.section.specs.declared.Walk.{Walk}
 use Rattle.section.specs.Walk.{start}
-use Rattle.bytes.specs.Bytes.{le32, le64, words, num32, num64, nums}
+use Rattle.octets.specs.Bytes.{le32, le64, words, num32, num64, nums}
 use Rattle.store.specs.declared.TakenState.{TakenState}
 
 abbrev pub state_version : ℕ

@@ -11,18 +11,18 @@ fn take_main(buf: &[u8]) -> Main
     requires { 438 ≤ length buf.now }
     ensures { result ≡ (definition_at buf.now).main }
 {
-    let n = bytes::take64(buf, 8) as usize;
-    let motor = bytes::take64(buf, 16) as usize;
+    let n = octets::take64(buf, 8) as usize;
+    let motor = octets::take64(buf, 16) as usize;
     let mut intra_predictors = [0u8; 62];
-    bytes::take_bytes(buf, 56, &mut intra_predictors);
+    octets::take_bytes(buf, 56, &mut intra_predictors);
     let mut inter_predictors = [0u8; 62];
-    bytes::take_bytes(buf, 118, &mut inter_predictors);
+    octets::take_bytes(buf, 118, &mut inter_predictors);
     let mut intra_encodings = [0u8; 62];
-    bytes::take_bytes(buf, 180, &mut intra_encodings);
+    octets::take_bytes(buf, 180, &mut intra_encodings);
     let mut inter_encodings = [0u8; 62];
-    bytes::take_bytes(buf, 242, &mut inter_encodings);
+    octets::take_bytes(buf, 242, &mut inter_encodings);
     let mut signs = [0u8; 62];
-    bytes::take_bytes(buf, 304, &mut signs);
+    octets::take_bytes(buf, 304, &mut signs);
     Main {
         n,
         motor,
@@ -38,13 +38,13 @@ fn take_slow(buf: &[u8]) -> Slow
     requires { 438 ≤ length buf.now }
     ensures { result ≡ (definition_at buf.now).slow }
 {
-    let n = bytes::take64(buf, 24) as usize;
+    let n = octets::take64(buf, 24) as usize;
     let mut predictors = [0u8; 16];
-    bytes::take_bytes(buf, 366, &mut predictors);
+    octets::take_bytes(buf, 366, &mut predictors);
     let mut encodings = [0u8; 16];
-    bytes::take_bytes(buf, 382, &mut encodings);
+    octets::take_bytes(buf, 382, &mut encodings);
     let mut signs = [0u8; 16];
-    bytes::take_bytes(buf, 398, &mut signs);
+    octets::take_bytes(buf, 398, &mut signs);
     Slow {
         n,
         predictors,
@@ -58,9 +58,9 @@ fn take_numbers(buf: &[u8]) -> Numbers
     ensures { result ≡ (definition_at buf.now).numbers }
 {
     Numbers {
-        min_throttle: HeaderNumber::of(bytes::take64(buf, 32)),
-        vbat_reference: HeaderNumber::of(bytes::take64(buf, 40)),
-        min_motor: HeaderNumber::of(bytes::take64(buf, 48)),
+        min_throttle: HeaderNumber::of(octets::take64(buf, 32)),
+        vbat_reference: HeaderNumber::of(octets::take64(buf, 40)),
+        min_motor: HeaderNumber::of(octets::take64(buf, 48)),
     }
 }
 
@@ -81,9 +81,9 @@ fn take_settings(buf: &[u8]) -> Settings
 {
     Settings {
         interval: FrameInterval {
-            intra: fitting(bytes::take64(buf, 414)),
-            numerator: fitting(bytes::take64(buf, 422)),
-            denominator: fitting(bytes::take64(buf, 430)),
+            intra: fitting(octets::take64(buf, 414)),
+            numerator: fitting(octets::take64(buf, 422)),
+            denominator: fitting(octets::take64(buf, 430)),
         },
     }
 }
@@ -104,7 +104,7 @@ pub fn take(buf: &[u8]) -> TakenDefinition
     if buf.len() < DEFINITION {
         return none();
     }
-    if bytes::take64(buf, 0) != DEFINITION_VERSION {
+    if octets::take64(buf, 0) != DEFINITION_VERSION {
         return none();
     }
     let main = take_main(buf);
@@ -130,13 +130,13 @@ fn put_counts(buf: &mut [u8], d: Definition)
     let throttle = numbers.min_throttle;
     let battery = numbers.vbat_reference;
     let least = numbers.min_motor;
-    bytes::put64(buf, 0, DEFINITION_VERSION);
-    bytes::put64(buf, 8, d.main.n as u64);
-    bytes::put64(buf, 16, d.main.motor as u64);
-    bytes::put64(buf, 24, d.slow.n as u64);
-    bytes::put64(buf, 32, throttle.code() as u64);
-    bytes::put64(buf, 40, battery.code() as u64);
-    bytes::put64(buf, 48, least.code() as u64);
+    octets::put64(buf, 0, DEFINITION_VERSION);
+    octets::put64(buf, 8, d.main.n as u64);
+    octets::put64(buf, 16, d.main.motor as u64);
+    octets::put64(buf, 24, d.slow.n as u64);
+    octets::put64(buf, 32, throttle.code() as u64);
+    octets::put64(buf, 40, battery.code() as u64);
+    octets::put64(buf, 48, least.code() as u64);
 }
 
 fn put_main(buf: &mut [u8], main: Main)
@@ -144,15 +144,15 @@ fn put_main(buf: &mut [u8], main: Main)
     ensures { buf.new ≡ sets buf.old 56 (main_bytes main) }
 {
     let a = main.intra_predictors;
-    bytes::put_bytes(buf, 56, &a[..62]);
+    octets::put_bytes(buf, 56, &a[..62]);
     let b = main.inter_predictors;
-    bytes::put_bytes(buf, 118, &b[..62]);
+    octets::put_bytes(buf, 118, &b[..62]);
     let c = main.intra_encodings;
-    bytes::put_bytes(buf, 180, &c[..62]);
+    octets::put_bytes(buf, 180, &c[..62]);
     let d = main.inter_encodings;
-    bytes::put_bytes(buf, 242, &d[..62]);
+    octets::put_bytes(buf, 242, &d[..62]);
     let e = main.signs;
-    bytes::put_bytes(buf, 304, &e[..62]);
+    octets::put_bytes(buf, 304, &e[..62]);
 }
 
 fn put_slow(buf: &mut [u8], slow: Slow)
@@ -160,20 +160,20 @@ fn put_slow(buf: &mut [u8], slow: Slow)
     ensures { buf.new ≡ sets buf.old 366 (slow_bytes slow) }
 {
     let a = slow.predictors;
-    bytes::put_bytes(buf, 366, &a[..16]);
+    octets::put_bytes(buf, 366, &a[..16]);
     let b = slow.encodings;
-    bytes::put_bytes(buf, 382, &b[..16]);
+    octets::put_bytes(buf, 382, &b[..16]);
     let c = slow.signs;
-    bytes::put_bytes(buf, 398, &c[..16]);
+    octets::put_bytes(buf, 398, &c[..16]);
 }
 
 fn put_settings(buf: &mut [u8], settings: Settings)
     requires { 438 ≤ length buf.old }
     ensures { buf.new ≡ sets buf.old 414 (settings_bytes settings) }
 {
-    bytes::put64(buf, 414, settings.interval.intra as u64);
-    bytes::put64(buf, 422, settings.interval.numerator as u64);
-    bytes::put64(buf, 430, settings.interval.denominator as u64);
+    octets::put64(buf, 414, settings.interval.intra as u64);
+    octets::put64(buf, 422, settings.interval.numerator as u64);
+    octets::put64(buf, 430, settings.interval.denominator as u64);
 }
 
 // Puts a definition in front of a buffer; one that is too short keeps its content.

@@ -1,5 +1,7 @@
 // A definition and a walk as bytes of a fixed layout, so that C keeps them between calls in buffers of its own.
 // What comes back is read, not trusted: its layout's version stands first, and codes that stand for nothing are told.
+#![tactic(auto)]
+
 use plan::Definition;
 use section::Walk;
 
@@ -17,14 +19,14 @@ pub const STATE_VERSION: u64 = 1;
 pub const STATE: usize = 600;
 
 // What bytes say: a definition, or that they are none; then it has no fields.
-#[derive(Drop)]
+#[derive(Clone, Copy)]
 pub struct TakenDefinition {
     pub is_one: bool,
     pub definition: Definition,
 }
 
 // What bytes say: a walk, or that they are none; then it is one that has not begun.
-#[derive(Drop)]
+#[derive(Clone, Copy)]
 pub struct TakenState {
     pub is_one: bool,
     pub walk: Walk,

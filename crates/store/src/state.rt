@@ -130,11 +130,11 @@ fn take_frame(buf: &[u8], at: usize) -> MainFrame
     requires { at + 264 ≤ length buf.now }
     ensures { result ≡ frame_at (drop at buf.now) }
 {
-    let mark = mark_of(bytes::take32(buf, at));
-    let iteration = bytes::take32(buf, at + 4);
-    let time = bytes::take64(buf, at + 8);
+    let mark = mark_of(octets::take32(buf, at));
+    let iteration = octets::take32(buf, at + 4);
+    let time = octets::take64(buf, at + 8);
     let mut values = [0u32; 62];
-    bytes::take_values(buf, at + 16, &mut values);
+    octets::take_values(buf, at + 16, &mut values);
     MainFrame {
         mark,
         iteration,
@@ -147,14 +147,14 @@ fn take_tally(buf: &[u8]) -> Tally
     requires { 600 ≤ length buf.now }
     ensures { result ≡ tally_at buf.now }
 {
-    let place = bytes::take64(buf, 8) as usize;
-    let cut = bytes::take64(buf, 24) as usize;
-    let ending = ending_of(bytes::take64(buf, 16), cut);
-    let main = bytes::take64(buf, 32) as usize;
-    let events = bytes::take64(buf, 40) as usize;
-    let slow = bytes::take64(buf, 48) as usize;
-    let rejected = bytes::take64(buf, 56) as usize;
-    let trials = bytes::take64(buf, 64) as usize;
+    let place = octets::take64(buf, 8) as usize;
+    let cut = octets::take64(buf, 24) as usize;
+    let ending = ending_of(octets::take64(buf, 16), cut);
+    let main = octets::take64(buf, 32) as usize;
+    let events = octets::take64(buf, 40) as usize;
+    let slow = octets::take64(buf, 48) as usize;
+    let rejected = octets::take64(buf, 56) as usize;
+    let trials = octets::take64(buf, 64) as usize;
     Tally {
         place,
         ending,
@@ -179,16 +179,16 @@ pub fn take(buf: &[u8]) -> TakenState
     if buf.len() < STATE {
         return none();
     }
-    if bytes::take64(buf, 0) != STATE_VERSION {
+    if octets::take64(buf, 0) != STATE_VERSION {
         return none();
     }
-    if !is_ending(bytes::take64(buf, 16)) {
+    if !is_ending(octets::take64(buf, 16)) {
         return none();
     }
-    if !is_mark(bytes::take32(buf, 72)) {
+    if !is_mark(octets::take32(buf, 72)) {
         return none();
     }
-    if !is_mark(bytes::take32(buf, 336)) {
+    if !is_mark(octets::take32(buf, 336)) {
         return none();
     }
     let tally = take_tally(buf);
@@ -208,11 +208,11 @@ fn put_frame(buf: &mut [u8], at: usize, f: MainFrame)
     ensures { buf.new ≡ sets buf.old at (frame_bytes f) }
 {
     let mark = f.mark;
-    bytes::put32(buf, at, mark_code(mark));
-    bytes::put32(buf, at + 4, f.iteration);
-    bytes::put64(buf, at + 8, f.time);
+    octets::put32(buf, at, mark_code(mark));
+    octets::put32(buf, at + 4, f.iteration);
+    octets::put64(buf, at + 8, f.time);
     let values = f.values;
-    bytes::put_values(buf, at + 16, &values[..62]);
+    octets::put_values(buf, at + 16, &values[..62]);
 }
 
 fn put_tally(buf: &mut [u8], t: Tally)
@@ -221,15 +221,15 @@ fn put_tally(buf: &mut [u8], t: Tally)
 {
     let ending = t.ending;
     let counts = t.counts;
-    bytes::put64(buf, 0, STATE_VERSION);
-    bytes::put64(buf, 8, t.place as u64);
-    bytes::put64(buf, 16, ending_code(ending));
-    bytes::put64(buf, 24, cut_place(ending) as u64);
-    bytes::put64(buf, 32, counts[0] as u64);
-    bytes::put64(buf, 40, counts[1] as u64);
-    bytes::put64(buf, 48, counts[2] as u64);
-    bytes::put64(buf, 56, counts[3] as u64);
-    bytes::put64(buf, 64, t.trials as u64);
+    octets::put64(buf, 0, STATE_VERSION);
+    octets::put64(buf, 8, t.place as u64);
+    octets::put64(buf, 16, ending_code(ending));
+    octets::put64(buf, 24, cut_place(ending) as u64);
+    octets::put64(buf, 32, counts[0] as u64);
+    octets::put64(buf, 40, counts[1] as u64);
+    octets::put64(buf, 48, counts[2] as u64);
+    octets::put64(buf, 56, counts[3] as u64);
+    octets::put64(buf, 64, t.trials as u64);
 }
 
 // Puts a walk in front of a buffer; one that is too short keeps its content.

@@ -1,5 +1,7 @@
 // Numbers in groups whose head says how many bytes they take: encodings 7 and 8.
 // The head tells the size, one test tells whether the section holds it, and then every value is taken from its own place.
+#![tactic(auto)]
+
 ghost use Rattle.std.specs.Prelude.{◌≡◌, ◌<◌, ◌%◌};
 ghost use Rattle.bits.specs.Pattern.{pattern, lowered};
 

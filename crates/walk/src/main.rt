@@ -1,5 +1,7 @@
 // Reads a log from standard input and prints its session: document 01's program `walk`.
 // The buffer has one byte more than the longest log, so that a longer one is seen to be too long.
+#![tactic(auto)]
+
 use libc::STDIN_FILENO;
 
 fn main() {

@@ -1,5 +1,7 @@
 // Whole walks: to their end, over a section to count its frames, and to the k-th frame of a sort to fill in its values.
 // The state is checked once and a barren search is made once, so that a section is walked in linear time.
+#![tactic(auto)]
+
 ghost use Rattle.std.specs.Prelude.{true, ◌||◌, ◌≡◌, ◌<◌, length};
 ghost use Rattle.section.specs.Refusals.{admitted};
 ghost use Rattle.section.specs.Answers.{is_over};
@@ -12,28 +14,28 @@ use plan::Definition;
 use section::{Answer, Check, Looked, Refusal, Tally, Walk};
 
 // The frames that have values.
-#[derive(Drop)]
+#[derive(Clone, Copy)]
 pub enum Sort {
     Main,
     Slow,
 }
 
 // Where a walk is to stop: at its end, or at a frame of a sort, counted from 0.
-#[derive(Drop)]
+#[derive(Clone, Copy)]
 pub enum Goal {
     End,
     Frame(Sort, usize),
 }
 
 // Where it stopped, and a buffer whose first values are those of the frame that it stopped at.
-#[derive(Drop)]
+#[derive(Clone, Copy)]
 struct Reached {
     looked: Looked,
     values: [u32; 62],
 }
 
 // How a whole walk from the section's start ended, or why it was refused, and what it counted.
-#[derive(Drop)]
+#[derive(Clone, Copy)]
 pub struct Counted {
     pub answer: Answer,
     pub tally: Tally,

@@ -9,14 +9,14 @@ ghost use Rattle.words.specs.Sections.{Counts};
 use crate::{Byte, hex};
 
 // How many bytes there are, and whether the text is written rightly and they fit. Otherwise there are none.
-#[derive(Drop)]
+#[derive(Clone, Copy)]
 pub struct Unescaped {
     pub length: usize,
     pub is_right: bool,
 }
 
 // A byte that a text writes, and in how many bytes.
-#[derive(Drop)]
+#[derive(Clone, Copy)]
 struct Part {
     byte: Byte,
     width: usize,

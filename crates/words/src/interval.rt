@@ -8,13 +8,13 @@ use crate::{behind, first};
 use digits::{Number, decimal};
 use plan::FrameInterval;
 
-#[derive(Drop)]
+#[derive(Clone, Copy)]
 enum Word {
     Is(u32),
     Wrong,
 }
 
-#[derive(Drop)]
+#[derive(Clone, Copy)]
 pub enum Interval {
     Is(FrameInterval),
     Wrong,

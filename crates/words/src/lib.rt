@@ -1,5 +1,7 @@
 // A line of a case taken apart into its words. The programs that run cases share it.
 // One space stands between two words, so behind two spaces the first word is empty.
+#![tactic(auto)]
+
 ghost use Rattle.std.specs.Prelude.{◌≡◌, ◌≤◌};
 ghost use Rattle.words.specs.Owes.{FirstOwes, BehindOwes, IsHeadingOwes, HexOwes};
 ghost use Rattle.words.specs.Words.{nibble};
@@ -12,7 +14,7 @@ pub mod three;
 use digits::until;
 
 // A byte that two digits write.
-#[derive(Drop)]
+#[derive(Clone, Copy)]
 pub enum Byte {
     Is(u8),
     Wrong,

@@ -7,7 +7,7 @@ ghost use Rattle.words.specs.Sections.{paired, pairs, over, no_section, Counts};
 use crate::digit;
 
 // How many bytes there are, and whether the text is a section that fits. A text that is none has no bytes.
-#[derive(Drop)]
+#[derive(Clone, Copy)]
 pub struct Section {
     pub length: usize,
     pub is_hex: bool,

@@ -7,13 +7,13 @@ use crate::{behind, first};
 use digits::{Number, decimal};
 use plan::{HeaderNumber, Numbers};
 
-#[derive(Drop)]
+#[derive(Clone, Copy)]
 enum Word {
     Is(HeaderNumber),
     Wrong,
 }
 
-#[derive(Drop)]
+#[derive(Clone, Copy)]
 pub enum Three {
     Are(Numbers),
     Wrong,

@@ -1,0 +1,14 @@
+-- `octets::put_bytes` meets its contract. The invariant: the first i bytes are stored. The measure is the bytes left. It requires room for all.
+use mathlib.Core.Path.{◌≡◌, refl}
+use Prim.Native.Nat.{◌≤◌, ◌-◌}
+use lib.ListN.{length, take, length-set}
+use lib.Seq.{sets}
+use borrow.Author.Rules.{rules}
+use Rattle.octets.proofs.Stores.{put_byte, put_all}
+use Rattle.octets.proofs.put_bytes.Given as goal
+
+abbrev pub invariant-loop-i : goal.invariant-loop-i
+invariant-loop-i l = (l.i ≤ length l.bytes) × (length l.buf ≡ length l.initial.buf) × (l.buf ≡ sets l.initial.buf l.at (take l.i l.bytes))
+
+abbrev pub decreases-loop-i : goal.decreases-loop-i
+decreases-loop-i l = length l.bytes - l.i
