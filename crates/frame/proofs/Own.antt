@@ -48,7 +48,8 @@ module _ (f : Fields) (l o : Option (List ℕ)) where
   behind_below : (own xs : List ℕ) → ((j : ℕ) → get_or own j 0 < 2 ^ 32) → (j : ℕ) → get_or (values_behind f l o own xs) j 0 < 2 ^ 32
   unfolding values_behind
   behind_below own [] each = each
-  behind_below own (x ∷ xs) each = behind_below _ xs (one_more own _ (applied_below x _) each)
+  behind_below own (x ∷ xs) each =
+      behind_below (own ++ (applied x (prediction_at f l o own (length own)) ∷ [])) xs (one_more own _ (applied_below x _) each)
 
   -- every value has 32 bits, whatever the raw numbers and the past
   pub values_below : (xs : List ℕ) (j : ℕ) → get_or (values_of f l o xs) j 0 < 2 ^ 32

@@ -12,8 +12,8 @@ use Rattle.frame.specs.declared.MainFrame.{MainFrame}
 use Rattle.frame.specs.contracts.MainFrame as frame
 use Rattle.frame.specs.contracts.fields.Context as context
 
-rooms : (l : List ℕ) {vs : List Val} → Is (array_field (uint_field w32) 62).row (map (λ v. v) l) vs → length l ≡ 62
-rooms l g = sym (length-map l (λ v. v)) ∙ g.1.0.1
+rooms : (l : List ℕ) {vs : List Val} → Is (array_field (uint_field w32) 62).row l vs → length l ≡ 62
+rooms l g = g.1.0.1
 
 -- `c.good` has such a part for each parameter
 pub raw_rooms : (x : Raw) {vs : List Val} → Is (declared.row raw.the_type) x vs → length x.fields ≡ 62

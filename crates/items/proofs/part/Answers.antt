@@ -17,7 +17,7 @@ pub returns-else-start-end : goal.returns-else-start-end
 unfolding part given
 returns-else-start-end c =
     rw c.in-At.is
-    (⊎_elim (λ w. rw (le-leb _ _ w.0, w.1)) (λ w. rw (lt-leb _ _ w)) c.else-start-end.either)
+    (⊎_elim (λ w. rw (le-leb _ _ w.0, lt-leb _ _ w.1)) (λ w. rw (lt-leb _ _ w)) c.else-start-end.either)
 
 pub returns-in-Absent : goal.returns-in-Absent
 unfolding part given

@@ -1,0 +1,13 @@
+-- `raws::empty` meets its contract. The invariant: the rooms before `i` are empty. Assumes nothing.
+use Prim.Native.Nat.{◌-◌}
+use native.Mathlib.Omega.{arith}
+use lib.ListN.{length}
+use borrow.Author.Rules.{rules}
+use Rattle.raws.proofs.Emptied.{Emptied, emptied_first, emptied_on, emptied_all}
+use Rattle.raws.proofs.empty.Given as goal
+
+abbrev pub invariant-loop-i : goal.invariant-loop-i
+invariant-loop-i l = Emptied l.initial.rooms l.rooms l.i
+
+abbrev pub decreases-loop-i : goal.decreases-loop-i
+decreases-loop-i l = length l.initial.rooms - l.i

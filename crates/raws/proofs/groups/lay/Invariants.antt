@@ -1,0 +1,13 @@
+-- `raws::groups::lay` meets its contract. The invariant: the first i are laid. Assumes that there are no more than 8 places, as its `requires` says.
+use Prim.Native.Nat.{◌-◌}
+use mathlib.Core.Logic.{⊎_elim}
+use native.Mathlib.Omega.{arith}
+use borrow.Author.Rules.{rules}
+use Rattle.raws.proofs.Laid.{Laid, laid_first, laid_on, laid_past, laid_all}
+use Rattle.raws.proofs.groups.lay.Given as goal
+
+abbrev pub invariant-loop-i : goal.invariant-loop-i
+invariant-loop-i l = Laid l.initial.out l.numbers l.out l.i
+
+abbrev pub decreases-loop-i : goal.decreases-loop-i
+decreases-loop-i l = 8 - l.i
