@@ -52,7 +52,7 @@ pub fn pattern_of(word: &[u8]) -> Pattern {
 
 // The field named motor[0] of n fields, or n.
 pub fn motor(word: &[u8], n: usize) -> Number {
-    if check::same(word, b"-") {
+    if word == b"-".as_slice() {
         return Number::Is(n);
     }
     digits::decimal(word)
@@ -72,7 +72,7 @@ fn no_codes(are: bool) -> Codes
 fn codes_of(word: &[u8], top: u8) -> Codes
     ensures { result.n ≤ 62 }
 {
-    if check::same(word, b"-") {
+    if word == b"-".as_slice() {
         return no_codes(true);
     }
     let n = word.len();
