@@ -8,7 +8,7 @@ use Rattle.section.proofs.Looks.{first_passes, first_refused}
 use Rattle.calls.proofs.call.Goals as goal
 
 pub step-called-requires : goal.step-called-requires
-step-called-requires c = (check_passes _ _ _ _ c.check-verdict.ensures c.in-Pass.is, barren_false _ _)
+step-called-requires c = record { w_admitted = check_passes _ _ _ _ c.check-verdict.ensures c.in-Pass.is; barren = barren_false _ _ }
 
 pub returns-in-Pass : goal.returns-in-Pass
 returns-in-Pass c =

@@ -12,7 +12,7 @@ use Rattle.calls.proofs.looks.Goals as goal
 
 pub loop-nothing-init : goal.loop-nothing-init
 loop-nothing-init c =
-    stands_first _ _ _ _ _ c.requires.0.0 c.requires.1.0 c.requires.1.1 (walk_counts c.args.w c.well_formed.1.0)
+    stands_first _ _ _ _ _ c.requires.w_admitted.0 c.requires.going.0 c.requires.going.1 (walk_counts c.args.w c.well_formed.1.0)
 
 pub sight_into-g-requires : goal.sight_into-g-requires
 sight_into-g-requires c = c.loop-nothing.invariant.right
@@ -35,7 +35,7 @@ pub settle-looked-requires : goal.settle-looked-requires
 settle-looked-requires c =
     (
       stands_fits _ _ c.loop-nothing.invariant (c.with-l.ensures ∙ c.sight_into-g.ensures),
-      stands_rooms _ _ c.loop-nothing.invariant c.requires.0.1,
+      stands_rooms _ _ c.loop-nothing.invariant c.requires.w_admitted.1,
     )
 
 pub shape_of-out-in-Says : goal.shape_of-out-in-Says

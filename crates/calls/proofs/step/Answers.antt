@@ -7,10 +7,10 @@ use Rattle.calls.proofs.Loop.{ended_steps}
 use Rattle.calls.proofs.step.Goals as goal
 
 pub returns-in-Done : goal.returns-in-Done
-returns-in-Done c = ended_steps _ _ _ _ _ _ (ap is_going c.in-Done.is) c.over.ensures c.requires.1
+returns-in-Done c = ended_steps _ _ _ _ _ _ (ap is_going c.in-Done.is) c.over.ensures c.requires.barren
 
 pub returns-in-Out : goal.returns-in-Out
-returns-in-Out c = ended_steps _ _ _ _ _ _ (ap is_going c.in-Out.is) c.over-in-Out.ensures c.requires.1
+returns-in-Out c = ended_steps _ _ _ _ _ _ (ap is_going c.in-Out.is) c.over-in-Out.ensures c.requires.barren
 
 pub returns-in-Cut : goal.returns-in-Cut
-returns-in-Cut c = ended_steps _ _ _ _ _ _ (ap is_going c.in-Cut.is) c.over-in-Cut.ensures c.requires.1
+returns-in-Cut c = ended_steps _ _ _ _ _ _ (ap is_going c.in-Cut.is) c.over-in-Cut.ensures c.requires.barren

@@ -17,8 +17,8 @@ loop-nothing-init c =
       last_kept = refl;
       older_kept = refl;
       stands =
-          stands_first _ _ (replicate 62 0) (walk_of c.args.w _ _) _ c.requires.0.0 c.requires.1.0
-          c.requires.1.1 (tally_counts c.args.w.tally c.well_formed.1.0.1.1.0);
+          stands_first _ _ (replicate 62 0) (walk_of c.args.w _ _) _ c.requires.walk_admitted.0 c.requires.going.0
+          c.requires.going.1 (tally_counts c.args.w.tally c.well_formed.1.0.1.1.0);
     }
 
 pub sight_into-g-requires : goal.sight_into-g-requires
@@ -42,7 +42,7 @@ loop-nothing-preserved c =
 
 pub settle_in-settled-requires : goal.settle_in-settled-requires
 settle_in-settled-requires c =
-    (stands_fits _ _ c.loop-nothing.invariant.stands c.sight_into-g.ensures, c.requires.0.1)
+    (stands_fits _ _ c.loop-nothing.invariant.stands c.sight_into-g.ensures, c.requires.walk_admitted.1)
 
 pub returns-in-Says : goal.returns-in-Says
 returns-in-Says c =
