@@ -1,6 +1,5 @@
 -- `calls::call` meets its contract: what the check refuses is refused, and a walk that passes it is admitted, so that a step from it, with no search saved
 -- at first, is the call. Assumes nothing.
-use borrow.Author.Rules.{rules}
 use Rattle.extent.proofs.Flag.{barren_false}
 use Rattle.section.proofs.Admitted.{check_passes}
 use Rattle.section.proofs.Checks.{check_is}

@@ -1,13 +1,11 @@
 -- `calls::looks` meets its contract. The invariant: the walk where the loop stands is admitted and goes on,
 -- its call is the first walk's, the flag is right there, and the lent buffer is as it was. The measure is the bytes left.
 -- It requires an admitted walk that goes on, rooms for the fields, and a flag that is right.
-use Prim.Native.Nat.{◌-◌}
 use mathlib.Core.Path.{ap, ◌∙◌}
 use native.Mathlib.Omega.{arith}
 use lib.ListN.{length}
-use borrow.Author.Rules.{rules}
 use Rattle.section.proofs.Rooms.{walk_counts}
-use Rattle.calls.proofs.Loop.{Stands, stands_first, stands_fits, stands_rooms, stands_on, less_left, stands_last}
+use Rattle.calls.proofs.Loop.{stands_first, stands_fits, stands_rooms, stands_on, less_left, stands_last}
 use Rattle.calls.proofs.looks.Goals as goal
 
 pub loop-nothing-init : goal.loop-nothing-init
@@ -32,11 +30,10 @@ loop-nothing-preserved c =
     c.after-next.ensures
 
 pub settle-looked-requires : goal.settle-looked-requires
-settle-looked-requires c =
-    (
-      stands_fits _ _ c.loop-nothing.invariant (c.with-l.ensures ∙ c.sight_into-g.ensures),
-      stands_rooms _ _ c.loop-nothing.invariant c.requires.w_admitted.1,
-    )
+settle-looked-requires c = (
+  stands_fits _ _ c.loop-nothing.invariant (c.with-l.ensures ∙ c.sight_into-g.ensures),
+  stands_rooms _ _ c.loop-nothing.invariant c.requires.w_admitted.1,
+)
 
 pub shape_of-out-in-Says : goal.shape_of-out-in-Says
 shape_of-out-in-Says c = omega (arith, ap length c.loop-nothing.invariant.kept)

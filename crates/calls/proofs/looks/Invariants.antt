@@ -2,12 +2,8 @@
 -- its call is the first walk's, the flag is right there, and the lent buffer is as it was. The measure is the bytes left.
 -- It requires an admitted walk that goes on, rooms for the fields, and a flag that is right.
 use Prim.Native.Nat.{◌-◌}
-use mathlib.Core.Path.{ap, ◌∙◌}
-use native.Mathlib.Omega.{arith}
 use lib.ListN.{length}
-use borrow.Author.Rules.{rules}
-use Rattle.section.proofs.Rooms.{walk_counts}
-use Rattle.calls.proofs.Loop.{Stands, stands_first, stands_fits, stands_rooms, stands_on, less_left, stands_last}
+use Rattle.calls.proofs.Loop.{Stands}
 use Rattle.calls.proofs.looks.Given as goal
 
 abbrev pub invariant-loop-nothing : goal.invariant-loop-nothing

@@ -1,7 +1,6 @@
 -- `calls::step` meets its contract: a walk that goes on looks, and one that has ended stays as it is. It requires an admitted walk, rooms for the fields,
 -- and a flag that is right.
 use mathlib.Core.Path.{ap}
-use borrow.Author.Rules.{rules}
 use Rattle.section.proofs.Alike.{is_going}
 use Rattle.calls.proofs.Loop.{ended_steps}
 use Rattle.calls.proofs.step.Goals as goal

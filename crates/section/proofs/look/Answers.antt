@@ -1,5 +1,4 @@
 -- `section::look` meets its contract: refusals first, and then one look. Assumes nothing.
-use borrow.Author.Rules.{rules}
 use Rattle.section.proofs.Admitted.{check_passes}
 use Rattle.section.proofs.Checks.{check_is}
 use Rattle.section.proofs.Looks.{first_passes, first_refused}

@@ -1,6 +1,5 @@
 -- `section::look_once` meets its contract: a walk that goes on looks, and one that has ended stays. Assumes an admitted walk and rooms for every field.
 use mathlib.Core.Path.{ap}
-use borrow.Author.Rules.{rules}
 use Rattle.section.proofs.Alike.{is_going}
 use Rattle.section.proofs.Looks.{once_fits, once_going, once_over}
 use Rattle.section.proofs.Rooms.{walk_counts}

@@ -1,8 +1,6 @@
 -- `section::put` meets its contract. The invariant: the values before `i` are put. Assumes nothing.
-use Prim.Native.Nat.{◌-◌}
-use borrow.Author.Rules.{rules}
 use native.Mathlib.Omega.{arith}
-use Rattle.section.proofs.Filling.{Filled, filled_first, filled_on, filled_all}
+use Rattle.section.proofs.Filling.{filled_first, filled_on, filled_all}
 use Rattle.section.proofs.put.Goals as goal
 
 pub loop-i-init : goal.loop-i-init

@@ -1,6 +1,5 @@
 -- `section::settle` meets its contract: what each thing that was seen does to the walk.
 -- Assumes a look that reaches over bytes of the section alone, a tally with sums that do not wrap, and rooms for every field.
-use borrow.Author.Rules.{rules}
 use Rattle.section.proofs.Effects.{see_nothing, see_passed, see_rejected, see_cut, see_accepted}
 use Rattle.section.proofs.settle.Goals as goal
 

@@ -1,5 +1,4 @@
 -- `walks::count` meets its contract: it gives the answer and the tally of a whole walk from the start. Assumes nothing.
-use borrow.Author.Rules.{rules}
 use Rattle.walks.proofs.Whole.{count_is}
 use Rattle.walks.proofs.count.Goals as goal
 

@@ -1,6 +1,5 @@
 -- `walks::fill` meets its contract: where the check passes, the walk goes to the frame and its fields go to the buffer;
 -- any other call is refused. Assumes nothing.
-use borrow.Author.Rules.{rules}
 use native.Mathlib.Omega.{arith}
 use lib.ListN.{length-take}
 use Rattle.walks.proofs.Rooms.{reached_values}

@@ -1,5 +1,4 @@
 -- `walks::is_last` meets its contract: what is over is asked first, then the goal. Assumes nothing.
-use borrow.Author.Rules.{rules}
 use Rattle.walks.proofs.Last.{over_last, goal_last}
 use Rattle.walks.proofs.is_last.Goals as goal
 

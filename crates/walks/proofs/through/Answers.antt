@@ -1,6 +1,5 @@
 -- `walks::through` meets its contract: an admitted walk goes to its end, any other is refused. Assumes nothing.
 use mathlib.Core.Path.{sym, ◌∙◌}
-use borrow.Author.Rules.{rules}
 use Rattle.walks.proofs.Whole.{through_passed, through_refused}
 use Rattle.walks.proofs.through.Goals as goal
 

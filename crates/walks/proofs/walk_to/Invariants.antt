@@ -1,13 +1,8 @@
 -- `walks::walk_to` meets its contract. The invariant: the walk that stands there is admitted, the whole walk from it is the first one's, the flag is
 -- right. The measure is the bytes left. It requires an admitted walk.
-use mathlib.Core.Path.{refl}
 use Rattle.section.specs.Lent.{walk_of}
-use Rattle.section.proofs.Lent.{light_whole}
-use Rattle.section.proofs.Rooms.{walk_counts}
 use Rattle.calls.specs.Call.{left}
-use Rattle.calls.proofs.Turns.{ready_rooms}
-use borrow.Author.Rules.{rules}
-use Rattle.walks.proofs.Turns.{Turn, turn_first, turn_again, turn_less, turn_last, reaches_whole}
+use Rattle.walks.proofs.Turns.{Turn}
 use Rattle.walks.proofs.walk_to.Given as goal
 
 abbrev pub invariant-loop-d : goal.invariant-loop-d

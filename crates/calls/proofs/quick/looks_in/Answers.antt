@@ -1,13 +1,11 @@
 -- `calls::quick::looks_in` meets its contract. The invariant: the walk where the loop stands is admitted and goes on,
 -- its call is the first walk's, the flag is right there, and the values of both frames are as they were. The measure is the bytes left.
 -- It requires an admitted walk that goes on, rooms for the fields, and a flag that is right.
-use Prim.Native.Nat.{◌-◌}
 use mathlib.Core.Path.{refl}
-use lib.ListN.{length, replicate}
+use lib.ListN.{replicate}
 use Rattle.section.specs.Lent.{walk_of}
 use Rattle.section.proofs.Rooms.{tally_counts}
-use borrow.Author.Rules.{rules}
-use Rattle.calls.proofs.Lent.{Lies, lies_last}
+use Rattle.calls.proofs.Lent.{lies_last}
 use Rattle.calls.proofs.Loop.{stands_first, stands_fits, stands_on, less_left}
 use Rattle.calls.proofs.quick.looks_in.Goals as goal
 

@@ -2,13 +2,8 @@
 -- its call is the first walk's, the flag is right there, and the values of both frames are as they were. The measure is the bytes left.
 -- It requires an admitted walk that goes on, rooms for the fields, and a flag that is right.
 use Prim.Native.Nat.{◌-◌}
-use mathlib.Core.Path.{refl}
-use lib.ListN.{length, replicate}
-use Rattle.section.specs.Lent.{walk_of}
-use Rattle.section.proofs.Rooms.{tally_counts}
-use borrow.Author.Rules.{rules}
-use Rattle.calls.proofs.Lent.{Lies, lies_last}
-use Rattle.calls.proofs.Loop.{stands_first, stands_fits, stands_on, less_left}
+use lib.ListN.{length}
+use Rattle.calls.proofs.Lent.{Lies}
 use Rattle.calls.proofs.quick.looks_in.Given as goal
 
 abbrev pub invariant-loop-nothing : goal.invariant-loop-nothing

@@ -2,7 +2,6 @@
 -- It requires an admitted walk, rooms for the fields, and a flag that is right.
 use mathlib.Core.Path.{ap}
 use Rattle.section.proofs.Alike.{is_going}
-use borrow.Author.Rules.{rules}
 use Rattle.calls.proofs.Lent.{ended_in}
 use Rattle.calls.proofs.quick.step_in.Goals as goal
 

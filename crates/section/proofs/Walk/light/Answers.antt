@@ -1,7 +1,6 @@
 -- `Walk::light` meets its contract. Assumes nothing.
 use mathlib.Core.Path.{ap}
 use Rattle.section.specs.declared.quick.Light.{Light}
-use borrow.Author.Rules.{rules}
 use Rattle.section.proofs.Walk.light.Goals as goal
 
 pub returns : goal.returns

@@ -1,6 +1,5 @@
 -- `section::Walk::start` meets its contract: it computes, with an empty history. Assumes nothing.
 use lib.ListN.{replicate}
-use borrow.Author.Rules.{rules}
 use Rattle.section.specs.declared.Ending.TheVariants.{Going}
 use Rattle.section.specs.Walk.{start}
 use Rattle.section.proofs.Walk.start.Goals as goal

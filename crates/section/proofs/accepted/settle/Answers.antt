@@ -1,7 +1,6 @@
 -- `section::accepted::settle` meets its contract: the answer, the fields and the history of each kind of frame.
 -- Assumes rooms for every field, and a buffer of so many places for them.
 use native.Mathlib.Omega.{arith}
-use borrow.Author.Rules.{rules}
 use lib.ListN.{length-take}
 use Rattle.section.proofs.Effects.{accept_event, accept_intra, accept_inter, accept_slow}
 use Rattle.section.proofs.Rooms.{intra_rooms, inter_rooms, slow_rooms}

@@ -1,6 +1,5 @@
 -- `section::quick::accept` meets its contract: the answer, the fields and the history of each kind of frame. It requires rooms for every field.
 use mathlib.Core.Path.{refl}
-use borrow.Author.Rules.{rules}
 use Rattle.section.proofs.Effects.{accept_event, accept_intra, accept_inter, accept_slow}
 use Rattle.section.proofs.Lent.{settled_tells, still_tells, push_parts}
 use Rattle.section.proofs.Padded.{intra_padded, inter_padded, slow_padded}

@@ -1,5 +1,4 @@
 -- `section::refusals::admits` meets its contract: the tally, then the history, then the definition. Assumes nothing.
-use borrow.Author.Rules.{rules}
 use Rattle.section.proofs.Checks.{admits_no_tally, admits_no_history, admits_by_definition}
 use Rattle.section.proofs.refusals.admits.Goals as goal
 

@@ -1,5 +1,4 @@
 -- `section::refusals::check` meets its contract: 10 first, then 11. Assumes nothing.
-use borrow.Author.Rules.{rules}
 use Rattle.section.proofs.Checks.{refusal_unsound, refusal_short, refusal_none}
 use Rattle.section.proofs.refusals.check.Goals as goal
 

@@ -1,7 +1,6 @@
 -- `section::refusals::is_sum` meets its contract. The invariant: the counts before `i` are taken off the trials. Assumes nothing.
 use Prim.Native.Nat.{◌-◌}
-use borrow.Author.Rules.{rules}
-use Rattle.section.proofs.Sums.{Off, off_first, off_on, off_short, off_all}
+use Rattle.section.proofs.Sums.{Off}
 use Rattle.section.proofs.refusals.is_sum.Given as goal
 
 abbrev pub invariant-loop-i : goal.invariant-loop-i

@@ -1,5 +1,4 @@
 -- `section::refusals::is_tally_sound` meets its contract: the place, then the trials, then their sum. Assumes nothing.
-use borrow.Author.Rules.{rules}
 use Rattle.section.proofs.Checks.{tally_beyond, tally_crowded, tally_sums}
 use Rattle.section.proofs.refusals.is_tally_sound.Goals as goal
 

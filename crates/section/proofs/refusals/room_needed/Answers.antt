@@ -1,5 +1,4 @@
 -- `section::refusals::room_needed` meets its contract: the larger of the two counts, by the test. Assumes nothing.
-use borrow.Author.Rules.{rules}
 use Rattle.section.proofs.Checks.{needed_slow, needed_main}
 use Rattle.section.proofs.refusals.room_needed.Goals as goal
 

@@ -1,7 +1,6 @@
 -- `Light::with` meets its contract. Assumes nothing.
 use mathlib.Core.Path.{ap}
 use Rattle.section.specs.declared.Walk.{Walk}
-use borrow.Author.Rules.{rules}
 use Rattle.section.proofs.quick.Light.with.Goals as goal
 
 pub returns : goal.returns
