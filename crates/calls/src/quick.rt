@@ -31,8 +31,8 @@ fn looks_in(
     older: &mut [u32; 62],
     values: &mut [u32; 62],
 ) -> Stepped
-    requires older_value { (admitted d (length s.now) (walk_of w last.old older.old) ≡ true) × Rooms d 62 }
-    requires ending_value { (w.tally.ending ≡ Going) × Barren barren s.now w.tally.place }
+    requires walk_admitted { (admitted d (length s.now) (walk_of w last.old older.old) ≡ true) × Rooms d 62 }
+    requires going { (w.tally.ending ≡ Going) × Barren barren s.now w.tally.place }
     ensures { StepsIn d w s.now last.old older.old result last.new older.new values.new }
 {
     let heads = w.heads;
@@ -87,7 +87,7 @@ pub fn step_in(
     older: &mut [u32; 62],
     values: &mut [u32; 62],
 ) -> Stepped
-    requires older_value { (admitted d (length s.now) (walk_of w last.old older.old) ≡ true) × Rooms d 62 }
+    requires walk_admitted { (admitted d (length s.now) (walk_of w last.old older.old) ≡ true) × Rooms d 62 }
     requires barren { Barren barren s.now w.tally.place }
     ensures { StepsIn d w s.now last.old older.old result last.new older.new values.new }
 {

@@ -15,7 +15,7 @@ use Rattle.frame.specs.contracts.fields.Context as context
 rooms : (l : List ℕ) {vs : List Val} → Is (array_field (uint_field w32) 62).row l vs → length l ≡ 62
 rooms l g = g.1.0.1
 
--- `c.good` has such a part for each parameter
+-- `c.well_formed` has such a part for each parameter
 pub raw_rooms : (x : Raw) {vs : List Val} → Is (declared.row raw.the_type) x vs → length x.fields ≡ 62
 raw_rooms x g = rooms x.fields g.1.1.1.1.0
 

@@ -113,7 +113,7 @@ fn values_of(
 )
     requires predictors_len { (length predictors.now ≡ length encodings.now) × (length predictors.now ≤ 62) }
     requires raws_len { (length raws.now ≡ 62) × (length last.now ≡ 62) × (length older.now ≡ 62) }
-    requires values_value { values.old ≡ replicate 62 0 }
+    requires values_clear { values.old ≡ replicate 62 0 }
     ensures { values.new ≡
         laid (fields_by predictors.now encodings.now motor around)
         (given has_last last.now) (given has_older older.now) raws.now }

@@ -33,7 +33,7 @@ unfolding inter_fields skipped_after shape rules
 values_of-requires c = record {
   predictors_len = simp length-take (omega (arith, main_rooms c.args.d.main c.well_formed.0.1.1.0));
   raws_len = omega arith;
-  values_value = c.clear.ensures;
+  values_clear = c.clear.ensures;
 }
 
 pub returns : goal.returns

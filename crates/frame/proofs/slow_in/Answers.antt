@@ -32,7 +32,7 @@ unfolding rules given
 values_of-requires c = record {
   predictors_len = simp length-take (omega (arith, slow_rooms c.args.d.slow c.well_formed.0.1.1.1.0));
   raws_len = omega arith;
-  values_value = c.clear.ensures;
+  values_clear = c.clear.ensures;
 }
 
 pub returns : goal.returns

@@ -22,7 +22,7 @@ pub values_of-requires : goal.values_of-requires
 values_of-requires c = record {
   predictors_len = simp length-take (omega (arith, c.well_formed));
   raws_len = omega (arith, raw_rooms c.args.raw c.well_formed.1.1.1.1.0, context_rooms c.args.context c.well_formed.1.1.1.0);
-  values_value = refl;
+  values_clear = refl;
 }
 
 pub returns : goal.returns
