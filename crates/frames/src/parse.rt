@@ -83,8 +83,7 @@ fn codes_of(word: &[u8], top: u8) -> Codes
         return no_codes(false);
     }
     let mut codes = [0u8; 62];
-    let mut i = 0;
-    while i < n {
+    for i in 0..n {
         let digit = words::hex(b'0', word[i]);
         let Byte::Is(b) = digit else {
             return no_codes(false);
@@ -93,7 +92,6 @@ fn codes_of(word: &[u8], top: u8) -> Codes
             return no_codes(false);
         }
         codes[i] = b;
-        i += 1;
     }
     Codes {
         are: true,
