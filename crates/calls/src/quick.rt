@@ -6,7 +6,8 @@ ghost use Rattle.section.specs.declared.Ending.TheVariants.{Going};
 ghost use Rattle.section.specs.Fits.{Rooms};
 ghost use Rattle.section.specs.Lent.{walk_of};
 ghost use Rattle.section.specs.Refusals.{admitted};
-ghost use Rattle.calls.specs.Lent.{StepsIn, over_beside};
+ghost use Rattle.calls.specs.Steps.{Steps};
+ghost use Rattle.calls.specs.Lent.{called_of, over_beside};
 
 use crate::{Vain, is_vain};
 use plan::Definition;
@@ -33,7 +34,7 @@ fn looks_in(
 ) -> Stepped
     requires walk_admitted { (admitted d (length s.now) (walk_of w last.old older.old) ≡ true) × Rooms d 62 }
     requires going { (w.tally.ending ≡ Going) × Barren barren s.now w.tally.place }
-    ensures { StepsIn d w s.now last.old older.old result last.new older.new values.new }
+    ensures { Steps d (walk_of w last.old older.old) s.now (replicate 62 0) (called_of result last.new older.new) values.new }
 {
     let heads = w.heads;
     let mut tally = w.tally;
@@ -89,7 +90,7 @@ pub fn step_in(
 ) -> Stepped
     requires walk_admitted { (admitted d (length s.now) (walk_of w last.old older.old) ≡ true) × Rooms d 62 }
     requires barren { Barren barren s.now w.tally.place }
-    ensures { StepsIn d w s.now last.old older.old result last.new older.new values.new }
+    ensures { Steps d (walk_of w last.old older.old) s.now (replicate 62 0) (called_of result last.new older.new) values.new }
 {
     let tally = w.tally;
     let ending = tally.ending;

@@ -2,7 +2,7 @@
 // No code of its own: an archive is made of one crate, and no other crate can stand on it.
 #![tactic(auto)]
 
-ghost use Rattle.dulimasca.specs.Owes.{CountOwes, DefineOwes, FillOwes, NameOwes, SettingsOwes, StartOwes};
+ghost use Rattle.dulimasca.specs.Owes.{CountOwes, DefineOwes, FillOwes, NameOwes, RowsOwes, SettingsOwes, StartOwes};
 
 // 0, and in `buf` the settings that the log's own header lines say; or refusal 11.
 #[unsafe(no_mangle)]
@@ -71,4 +71,20 @@ pub extern "C" fn dulimasca_fill(
     ensures { FillOwes def.now s.now kind k out.old told.old result out.new told.new }
 {
     dulimasca::walking::dulimasca_fill(def, s, kind, k, out, told)
+}
+
+// The next rows of a walk: as many whole ones as `out` has room for, and the walk behind them in `state`. 0: there may be more; 1 to 3: how the walk ended;
+// or refusal 10, or 11 with the length of a row. `told`: what `dulimasca_count` tells, of the walk so far, and how many rows there are.
+#[unsafe(no_mangle)]
+pub extern "C" fn dulimasca_rows(
+    def: &[u8],
+    state: &mut [u8],
+    s: &[u8],
+    out: &mut [u8],
+    told: &mut [u8],
+) -> u64
+    ensures { RowsOwes def.now state.old s.now out.old
+        told.old result state.new out.new told.new }
+{
+    dulimasca::walking::dulimasca_rows(def, state, s, out, told)
 }

@@ -23,14 +23,13 @@ loop-i-smaller c = search rules
 
 pub loop-i-preserved : goal.loop-i-preserved
 unfolding words
-loop-i-preserved c =
-    (
-      search rules,
-      search rules,
-      search rules,
-      put_value _ _ _ _ _ _ _ c.loop-i.invariant.3 c.loop-i-test.true
-          c.loop-i.invariant.1 c.put32.ensures,
-    )
+loop-i-preserved c = (
+  search rules,
+  search rules,
+  search rules,
+  put_value _ _ _ _ _ _ _ c.loop-i.invariant.3 c.loop-i-test.true
+      c.loop-i.invariant.1 c.put32.ensures,
+)
 
 pub shape_of-buf : goal.shape_of-buf
 unfolding words

@@ -22,13 +22,12 @@ loop-i-smaller c = search rules
 
 pub loop-i-preserved : goal.loop-i-preserved
 unfolding nums
-loop-i-preserved c =
-    (
-      search rules,
-      search rules,
-      simp length-set c.loop-i.invariant.2,
-      take_value _ _ _ _ _ c.loop-i.invariant.3 c.loop-i-test.true c.loop-i.invariant.1 c.take32.ensures,
-    )
+loop-i-preserved c = (
+  search rules,
+  search rules,
+  simp length-set c.loop-i.invariant.2,
+  take_value _ _ _ _ _ c.loop-i.invariant.3 c.loop-i-test.true c.loop-i.invariant.1 c.take32.ensures,
+)
 
 pub shape_of-values : goal.shape_of-values
 unfolding nums
