@@ -4,36 +4,7 @@ use Rattle.definition.specs.Checks.{found}
 use Rattle.definition.specs.Defined.{judged, fields_of, in_interval}
 use Rattle.definition.proofs.Chain.{passes, chain}
 use Rattle.definition.proofs.Judged.{else_none, defined_pass, defined_refused}
-use borrow.Author.Rules.{rules}
 use Rattle.definition.proofs.define.Goals as goal
-
-pub judge-main-requires : goal.judge-main-requires
-unfolding judged fields_of in_interval
-judge-main-requires c = search rules
-
-pub judge-slow-requires : goal.judge-slow-requires
-unfolding judged fields_of in_interval
-judge-slow-requires c = search rules
-
-pub other_interval-last-requires : goal.other_interval-last-requires
-unfolding judged fields_of in_interval
-other_interval-last-requires c = search rules
-
-pub first-requires : goal.first-requires
-unfolding judged fields_of in_interval
-first-requires c = search rules
-
-pub first-verdict-requires : goal.first-verdict-requires
-unfolding judged fields_of in_interval
-first-verdict-requires c = search rules
-
-pub enum_known-verdict : goal.enum_known-verdict
-unfolding judged fields_of in_interval
-enum_known-verdict c = search rules
-
-pub nothing-nothing-requires : goal.nothing-nothing-requires
-unfolding judged fields_of in_interval
-nothing-nothing-requires c = search rules
 
 pub returns-in-Pass : goal.returns-in-Pass
 unfolding judged fields_of in_interval

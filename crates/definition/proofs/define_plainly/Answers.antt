@@ -1,7 +1,6 @@
 -- `definition::define_plainly` meets its contract: the settings are plain. Assumes nothing.
 use mathlib.Core.Path.{ap, ◌∙◌}
 use Rattle.definition.specs.Defined.{defined}
-use borrow.Author.Rules.{rules}
 use Rattle.definition.proofs.define_plainly.Goals as goal
 
 pub returns : goal.returns

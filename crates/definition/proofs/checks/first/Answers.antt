@@ -1,7 +1,6 @@
 -- `definition::checks::first` meets its contract: the first that applies. Assumes nothing.
 use mathlib.Core.Path.{sym}
 use Rattle.definition.proofs.Chain.{passes, refuses, else_second, else_first}
-use borrow.Author.Rules.{rules}
 use Rattle.definition.proofs.checks.first.Goals as goal
 
 pub returns-in-Pass : goal.returns-in-Pass

@@ -1,7 +1,6 @@
 -- `definition::checks::unknown_from` meets its contract: round by round, all before are known. Assumes nothing.
 use Prim.Native.Nat.{◌-◌}
-use Rattle.definition.proofs.Unknown.{Passed, passed_first, passed_on, passed_not, passed_all}
-use borrow.Author.Rules.{rules}
+use Rattle.definition.proofs.Unknown.{Passed}
 use Rattle.definition.proofs.checks.unknown_from.Given as goal
 
 abbrev pub invariant-loop-k : goal.invariant-loop-k

@@ -4,17 +4,9 @@ use Rattle.definition.proofs.Unknown.{test_1, test_2, test_3, test_4, here, late
 use borrow.Author.Rules.{rules}
 use Rattle.definition.proofs.checks.unknown_in.Goals as goal
 
-pub code_at-requires : goal.code_at-requires
-unfolding said
-code_at-requires c = search rules
-
 pub returns-then-code_at : goal.returns-then-code_at
 unfolding said
 returns-then-code_at c l e = here 1 _ _ _ (test_1 (search rules) c.code_at.ensures l e) c.if-code_at.true
-
-pub code_at-requires-2 : goal.code_at-requires-2
-unfolding said
-code_at-requires-2 c = search rules
 
 pub returns-then-code_at-2 : goal.returns-then-code_at-2
 unfolding said
@@ -22,20 +14,12 @@ returns-then-code_at-2 c l e =
     later 1 _ _ _ (test_1 (search rules) c.code_at.ensures l e) c.if-code_at.false
     (here 2 _ _ _ (test_2 (search rules) c.code_at-2.ensures l e) c.if-code_at-2.true)
 
-pub code_at-requires-3 : goal.code_at-requires-3
-unfolding said
-code_at-requires-3 c = search rules
-
 pub returns-then-code_at-3 : goal.returns-then-code_at-3
 unfolding said
 returns-then-code_at-3 c l e =
     later 1 _ _ _ (test_1 (search rules) c.code_at.ensures l e) c.if-code_at.false
     (later 2 _ _ _ (test_2 (search rules) c.code_at-2.ensures l e) c.if-code_at-2.false
     (here 3 _ _ _ (test_3 (search rules) c.code_at-3.ensures l e) c.if-code_at-3.true))
-
-pub code_at-requires-4 : goal.code_at-requires-4
-unfolding said
-code_at-requires-4 c = search rules
 
 pub returns-then-code_at-4 : goal.returns-then-code_at-4
 unfolding said

@@ -3,12 +3,7 @@ use mathlib.Core.Path.{sym, ap}
 use Rattle.plan.specs.Sound as sound
 use Rattle.definition.specs.Checks.{paper_of, found}
 use Rattle.definition.specs.MainLists.{in_needs}
-use borrow.Author.Rules.{rules}
 use Rattle.definition.proofs.checks.unmet.Goals as goal
-
-pub enum_known-need : goal.enum_known-need
-unfolding found paper_of in_needs sound.found
-enum_known-need c = search rules
 
 pub returns-in-Met : goal.returns-in-Met
 unfolding found paper_of in_needs sound.found

@@ -1,5 +1,4 @@
 -- `definition::main_lists::check_absent` meets its contract: the lowest list that is absent. Assumes nothing.
-use borrow.Author.Rules.{rules}
 use Rattle.definition.specs.Defined.{main_absent}
 use Rattle.definition.proofs.Chain.{chain, absent}
 use Rattle.definition.proofs.main_lists.check_absent.Goals as goal

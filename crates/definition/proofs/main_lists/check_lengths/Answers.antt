@@ -1,7 +1,6 @@
 -- `definition::main_lists::check_lengths` meets its contract: list by list, in the zips' order. Assumes nothing.
 use mathlib.Core.Bool.{◌||◌}
 use mathlib.Core.Path.{ap, ap₂, ◌∙◌}
-use borrow.Author.Rules.{rules}
 use Rattle.definition.specs.Checks.{paper_of, check}
 use Rattle.definition.specs.MainLists.{lengths}
 use Rattle.definition.proofs.Chain.{chain}

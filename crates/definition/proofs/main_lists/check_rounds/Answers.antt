@@ -1,7 +1,6 @@
 -- `definition::main_lists::check_rounds` meets its contract: check by check. Assumes nothing.
 use mathlib.Core.Bool.{not}
 use mathlib.Core.Path.{ap, ◌∙◌}
-use borrow.Author.Rules.{rules}
 use Rattle.definition.specs.Checks.{paper_of, check}
 use Rattle.definition.specs.MainLists.{in_rounds}
 use Rattle.definition.proofs.Chain.{chain}

@@ -1,5 +1,4 @@
 -- `definition::main_lists::is_field` meets its contract: test by test. Assumes nothing.
-use borrow.Author.Rules.{rules}
 use Rattle.definition.proofs.Rounds.{passed_test, failed_test, last_test}
 use Rattle.definition.proofs.main_lists.is_field.Goals as goal
 

@@ -6,7 +6,6 @@ use Rattle.definition.specs.MainLists.{in_needs, main_of}
 use Rattle.definition.proofs.Chain.{chain}
 use Rattle.definition.proofs.Judged.{not_none, main_too_many, main_judged}
 use Rattle.definition.proofs.Readings.{lengths_of}
-use borrow.Author.Rules.{rules}
 use Rattle.definition.proofs.main_lists.judge_rows.Goals as goal
 
 pub returns-then-n-gt64 : goal.returns-then-n-gt64

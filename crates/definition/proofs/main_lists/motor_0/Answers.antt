@@ -1,7 +1,6 @@
 -- `definition::main_lists::motor_0` meets its contract. The invariant: no field before `i` is `motor[0]`. Assumes nothing.
-use Prim.Native.Nat.{◌-◌, ◌≤◌}
 use borrow.Author.Rules.{rules}
-use Rattle.definition.proofs.Motor.{Sought, sought_first, sought_on, sought_found, sought_end}
+use Rattle.definition.proofs.Motor.{sought_first, sought_on, sought_found, sought_end}
 use Rattle.definition.proofs.main_lists.motor_0.Goals as goal
 
 pub loop-i-init : goal.loop-i-init

@@ -1,5 +1,4 @@
 -- `definition::main_lists::still_longer` meets its contract: by its branches. Assumes nothing.
-use borrow.Author.Rules.{rules}
 use Rattle.definition.proofs.main_lists.still_longer.Goals as goal
 
 pub returns-then-longer : goal.returns-then-longer

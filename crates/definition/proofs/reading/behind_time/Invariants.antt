@@ -1,9 +1,6 @@
 -- `definition::reading::behind_time` meets its contract: the items from the third on are laid one by one. Assumes nothing.
 use Prim.Native.Nat.{◌-◌, ◌≤◌}
-use Rattle.definition.proofs.Laid.{Laid, laid_first, laid_on, laid_end}
-use mathlib.Core.Path.{refl}
-use native.Mathlib.Omega.{arith}
-use borrow.Author.Rules.{rules}
+use Rattle.definition.proofs.Laid.{Laid}
 use Rattle.definition.proofs.reading.behind_time.Given as goal
 
 abbrev pub invariant-loop-k : goal.invariant-loop-k

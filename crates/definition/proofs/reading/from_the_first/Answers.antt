@@ -1,9 +1,7 @@
 -- `definition::reading::from_the_first` meets its contract: the items are laid one by one. Assumes nothing.
-use Prim.Native.Nat.{◌-◌, ◌≤◌}
 use mathlib.Core.Path.{refl}
 use native.Mathlib.Omega.{arith}
-use Rattle.definition.proofs.Laid.{Laid, laid_first, laid_on, laid_end}
-use borrow.Author.Rules.{rules}
+use Rattle.definition.proofs.Laid.{laid_first, laid_on, laid_end}
 use Rattle.definition.proofs.reading.from_the_first.Goals as goal
 
 pub loop-k-init : goal.loop-k-init

@@ -1,5 +1,4 @@
 -- `definition::reading::read` meets its contract: the row of the stretch's items. Assumes nothing.
-use borrow.Author.Rules.{rules}
 use Rattle.definition.proofs.Readings.{row_read}
 use Rattle.definition.proofs.reading.read.Goals as goal
 

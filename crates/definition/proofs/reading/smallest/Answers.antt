@@ -2,7 +2,6 @@
 use Prim.Native.Nat.{min}
 use mathlib.Core.Path.{ap, ◌∙◌}
 use Rattle.definition.proofs.Readings.{rounds_of}
-use borrow.Author.Rules.{rules}
 use Rattle.definition.proofs.reading.smallest.Goals as goal
 
 pub returns : goal.returns

@@ -1,7 +1,6 @@
 -- `definition::slow_lists::fields` meets its contract: each list laid from its first item on. Assumes nothing.
 use mathlib.Core.Path.{ap, ◌∙◌}
 use native.Mathlib.Omega.{arith}
-use borrow.Author.Rules.{rules}
 use Rattle.items.specs.declared.Of.TheVariants.{Predictors, Encodings, Signs}
 use Rattle.items.specs.Rows.{code_of}
 use Rattle.definition.specs.declared.Rows.{Rows}
@@ -9,18 +8,6 @@ use Rattle.definition.specs.Rows.{rows_of, both}
 use Rattle.definition.specs.SlowLists.{slow_of}
 use Rattle.definition.proofs.Laid.{laid_fields}
 use Rattle.definition.proofs.slow_lists.fields.Goals as goal
-
-pub from_the_first-requires : goal.from_the_first-requires
-unfolding slow_of rows_of both code_of
-from_the_first-requires c = search rules
-
-pub from_the_first-requires-2 : goal.from_the_first-requires-2
-unfolding slow_of rows_of both code_of
-from_the_first-requires-2 c = search rules
-
-pub from_the_first-requires-3 : goal.from_the_first-requires-3
-unfolding slow_of rows_of both code_of
-from_the_first-requires-3 c = search rules
 
 pub returns : goal.returns
 unfolding slow_of rows_of both code_of

@@ -7,7 +7,6 @@ use Rattle.definition.specs.Rows.{both}
 use Rattle.definition.specs.SlowLists.{slow_of}
 use Rattle.definition.proofs.Chain.{chain, uneven}
 use Rattle.definition.proofs.Judged.{not_none, slow_too_many, slow_judged, slow_rounds_law}
-use borrow.Author.Rules.{rules}
 use Rattle.definition.proofs.slow_lists.judge_rows.Goals as goal
 
 pub returns-then-n-gt16 : goal.returns-then-n-gt16
