@@ -14,8 +14,8 @@ use Rattle.items.specs.declared.SlowLists.{SlowLists}
 use Rattle.items.specs.Said.{unknown}
 use Rattle.plan.specs.declared.Settings.{Settings}
 use Rattle.plan.specs.declared.Numbers.{Numbers}
-use Rattle.plan.specs.Sound as sound
-use Rattle.plan.proofs.Needs.{IsEight, main_eight, slow_eight}
+use Rattle.plan.specs.declared.Need.{Need}
+use Rattle.plan.specs.declared.Need.TheVariants as need
 use Rattle.definition.specs.declared.Defined.{Defined}
 use Rattle.definition.specs.declared.Paper.{Paper}
 use Rattle.definition.specs.declared.Refusal.{Refusal}
@@ -75,17 +75,17 @@ fits_lengths : (l : MainItems) (n : ℕ) → Fits (in_lengths l n)
 unfolding in_lengths lengths
 fits_lengths l n = fits_else _ _ (fits_check _ 6 n (omega arith)) (fits_check _ 7 n (omega arith))
 
-fits_needs : (x : sound.Finding) → IsEight x → Fits (in_needs x)
+fits_needs : (x : Need) → Fits (in_needs x)
 unfolding in_needs
-fits_needs none eight = tt
-fits_needs (some x) eight = (omega (arith, eight.number refl), omega arith)
+fits_needs need.Met = tt
+fits_needs (need.Unmet field) = (omega arith, omega arith)
 
 fits_main : (l : MainItems) (numbers : Numbers) → Fits (judged_main l numbers)
 unfolding judged_main
 fits_main l numbers =
     fits_behind (ltb 64 (rounds l)) 2 (rounds l) _ (omega arith)
     (λ t.
-    fits_else _ _ (fits_rounds l (rounds l) (ltb-false 64 (rounds l) t)) (fits_else _ _ (fits_lengths l (rounds l)) (fits_needs _ (main_eight _ numbers))))
+    fits_else _ _ (fits_rounds l (rounds l) (ltb-false 64 (rounds l) t)) (fits_else _ _ (fits_lengths l (rounds l)) (fits_needs _)))
 
 fits_four : (l : SlowItems) → Fits (judged_four 16 l)
 unfolding judged_four
@@ -95,7 +95,7 @@ fits_four l =
 
 fits_slow : (l : SlowItems) (numbers : Numbers) → Fits (judged_slow l numbers)
 unfolding judged_slow
-fits_slow l numbers = fits_else _ _ (fits_four l) (fits_needs _ (slow_eight _ numbers))
+fits_slow l numbers = fits_else _ _ (fits_four l) (fits_needs _)
 
 module _ (text : List ℕ) where
   fits_main_absent : (l : MainLists) → Fits (main_absent text l)
