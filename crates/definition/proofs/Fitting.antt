@@ -91,7 +91,9 @@ fits_four : (l : SlowItems) → Fits (judged_four 16 l)
 unfolding judged_four
 fits_four l =
     fits_behind (ltb 16 (slow_rounds l)) 2 (slow_rounds l) _ (omega arith)
-    (λ t. let few = ltb-false 16 (slow_rounds l) t in fits_else _ _ (fits_from _ 0 (slow_rounds l) (omega arith)) (fits_check _ 6 (slow_rounds l) (omega arith)))
+    (λ t.
+    let few = ltb-false 16 (slow_rounds l) t in
+    fits_else _ _ (fits_from _ 0 (slow_rounds l) (omega arith)) (fits_check _ 6 (slow_rounds l) (omega arith)))
 
 fits_slow : (l : SlowItems) (numbers : Numbers) → Fits (judged_slow l numbers)
 unfolding judged_slow

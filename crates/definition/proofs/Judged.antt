@@ -49,7 +49,8 @@ module _ (l : MainItems) (numbers : Numbers) {n : ℕ} (is : n ≡ rounds l) whe
   unfolding found paper_of judged_main check ◌or_else◌
   main_too_many lt = rw (sym is, lt-ltb 64 n lt)
 
-  pub main_judged : {f : Finding} → f ≡ (in_rounds l n or_else in_lengths l n or_else in_needs (unmet_main (main_of l n) numbers)) → n ≤ 64 → f ≡ judged_main l numbers
+  pub main_judged : {f : Finding} → f ≡ (in_rounds l n or_else in_lengths l n or_else in_needs (unmet_main (main_of l n) numbers)) → n ≤ 64
+      → f ≡ judged_main l numbers
   unfolding judged_main check ◌or_else◌
   main_judged e le = e ∙ rw (sym is, le-ltb 64 n le)
 
@@ -108,7 +109,8 @@ module _ (text : List ℕ) (l : SlowLists) (numbers : Numbers) where
   unfolding slow_fields
   no_slow_fields e = rw e
 
-  pub some_slow : {f : Finding} → no_slow_lists l ≡ false → f ≡ (slow_absent text l or_else judged_slow (slow_items text l) numbers) → f ≡ slow_finding text l numbers
+  pub some_slow : {f : Finding} → no_slow_lists l ≡ false → f ≡ (slow_absent text l or_else judged_slow (slow_items text l) numbers)
+      → f ≡ slow_finding text l numbers
   unfolding slow_finding
   some_slow e is = is ∙ rw e
 
