@@ -70,11 +70,11 @@ frames_open = tt
 
 -- a log's lists
 unfoldable pub lists_open : Unit {0}
-unfolding plan.core plan.shape plan.rules plan.nothing sound.met sound.unmet_from sound.behind_time sound.unmet_main sound.unmet_slow sound.is_interval
+unfolding plan.core plan.shape plan.rules plan.nothing sound.met sound.unmet_from sound.unmet_main sound.unmet_slow sound.is_interval
     header.header_of header.lists_of header.value_of header.last_from header.newer lines.lines lines.bare lines.begins lines.headers lines.total
     items.items items.absent items.given items.part said.number_among said.predictor_of said.encoding_of
     said.blank said.trim_start said.trim_end said.unsigned said.sign_code table same
-    checks.check checks.◌orElse◌ checks.unknown_in checks.unknown_from
+    checks.check checks.◌or_else◌ checks.unknown_in checks.unknown_from
     defined.main_items defined.slow_items defined.main_absent defined.slow_absent defined.no_slow_lists defined.main_finding defined.slow_finding defined.judged
     defined.slow_fields defined.fields_of defined.in_interval defined.definition_of defined.defined
     mainLists.rounds mainLists.said mainLists.is_field mainLists.in_rounds mainLists.reached mainLists.wrong mainLists.lengths mainLists.in_lengths

@@ -71,12 +71,7 @@ fn about_log(head: Header, d: Definition) -> [u64; 8]
 
 // 0, the definition in `buf`, and in `told`: where the section begins, the items of the main and the slow lists,
 // where the main names begin and end, where the slow ones do, and the length of a row. Or a refusal, 1 to 11.
-pub fn dulimasca_define(
-    log: &[u8],
-    chosen: &[u8],
-    buf: &mut [u8],
-    told: &mut [u8],
-) -> u64
+pub fn dulimasca_define(log: &[u8], chosen: &[u8], buf: &mut [u8], told: &mut [u8]) -> u64
     ensures { DefineOwes log.now chosen.now buf.old told.old result buf.new told.new }
 {
     if !settings::stored::are_settings(chosen) {
