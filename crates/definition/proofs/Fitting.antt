@@ -20,7 +20,7 @@ use Rattle.definition.specs.declared.Defined.{Defined}
 use Rattle.definition.specs.declared.Paper.{Paper}
 use Rattle.definition.specs.declared.Refusal.{Refusal}
 use Rattle.definition.specs.declared.Verdict.TheVariants.{Refused}
-use Rattle.definition.specs.Checks.{paper_of, Finding, check, ◌orElse◌, unknown_in, unknown_from}
+use Rattle.definition.specs.Checks.{paper_of, Finding, check, ◌or_else◌, unknown_in, unknown_from}
 use Rattle.definition.specs.Defined.{Answer, told, main_absent, slow_absent, main_finding, no_slow_lists, slow_finding, in_interval, judged, defined}
 use Rattle.definition.specs.MainLists.{MainItems, rounds, in_rounds, lengths, in_lengths, in_needs, judged_main}
 use Rattle.definition.specs.SlowLists.{SlowItems, slow_rounds, judged_four, judged_slow}
@@ -33,7 +33,7 @@ Fits (some p) = (p.number < 256) × (p.round < 255)
 -- ## One check after another
 
 fits_else : (a b : Finding) → Fits a → Fits b → Fits (a or_else b)
-unfolding ◌orElse◌
+unfolding ◌or_else◌
 fits_else none b f g = g
 fits_else (some p) b f g = f
 
@@ -44,7 +44,7 @@ fits_check false number place h = tt
 
 -- what stands behind a check is looked at where that does not apply
 fits_behind : (t : Bool) (number place : ℕ) (rest : Finding) → number < 256 → (t ≡ false → Fits rest) → Fits (check t number place or_else rest)
-unfolding check ◌orElse◌
+unfolding check ◌or_else◌
 fits_behind true number place rest h f = (h, omega arith)
 fits_behind false number place rest h f = f refl
 

@@ -24,7 +24,7 @@ use Rattle.plan.specs.Sound.{known, unmet_from, unmet_slow, sound_main, sound_sl
 use Rattle.plan.proofs.Needs.{known_all}
 use Rattle.plan.proofs.Sound.{main_sound_made, slow_sound_made, sound_made, nothing_sound}
 use Rattle.definition.specs.declared.Paper.{Paper}
-use Rattle.definition.specs.Checks.{Finding, check, ◌orElse◌, unknown_in, unknown_from}
+use Rattle.definition.specs.Checks.{Finding, check, ◌or_else◌, unknown_in, unknown_from}
 use Rattle.definition.specs.Defined.{main_items, slow_items, slow_absent, no_slow_lists, main_finding, slow_finding}
 use Rattle.definition.specs.Defined.{judged, slow_fields, fields_of, in_interval, definition_of, defined}
 use Rattle.definition.specs.MainLists.{Items, MainItems, rounds, said, in_rounds, fields_from, predictor, encoding, main_of, in_needs, judged_main}

@@ -9,7 +9,7 @@ use Rattle.plan.specs.declared.Main.{Main}
 use Rattle.plan.specs.declared.Numbers.{Numbers}
 use Rattle.plan.specs.Sound as sound
 use Rattle.plan.specs.Sound.{unmet_main}
-use Rattle.definition.specs.Checks.{Finding, refusal, check, ◌orElse◌, unknown_in, unknown_from}
+use Rattle.definition.specs.Checks.{Finding, refusal, check, ◌or_else◌, unknown_in, unknown_from}
 
 abbrev pub Items : Type 0
 Items = List (List ℕ)

@@ -2,7 +2,7 @@
 ghost use Rattle.std.specs.Prelude.{cond, ◌≡◌, ◌-◌, ◌<◌, ◌≤◌};
 ghost use Rattle.std.proofs.Math.Option.{some, none};
 ghost use Rattle.plan.specs.Sound as Sound;
-ghost use Rattle.definition.specs.Checks.{refusal, paper_of, found, ◌orElse◌, unknown_in, unknown_from};
+ghost use Rattle.definition.specs.Checks.{refusal, paper_of, found, ◌or_else◌, unknown_in, unknown_from};
 ghost use Rattle.definition.specs.Defined.{in_interval};
 ghost use Rattle.definition.specs.MainLists.{said, in_needs};
 ghost use Rattle.definition.specs.Rows.{ForMain};
