@@ -1,3 +1,4 @@
+-- A step is asked for with what the invariant says, and what a step ensures keeps it.
 use Rattle.std.proofs.Common.{rules, sym, ◌∙◌}
 use Rattle.calls.proofs.Turns.{ready_start, ready_rooms, ready_again, ready_less}
 use Rattle.session.proofs.walk.Goals as goal
