@@ -19,15 +19,13 @@ fn records_of(predictors: [u8; 62], encodings: [u8; 62], signs: [u8; 62]) -> [Fi
         signed: false,
     };
     let mut records = [none; 63];
-    let mut i = 0;
-    while i < 62 {
+    for i in 0..62 {
         let field = FieldDef {
             predictor: predictors[i],
             encoding: encodings[i],
             signed: signs[i] != 0,
         };
         records[i] = field;
-        i += 1;
     }
     records
 }
