@@ -53,7 +53,8 @@ encodings_open = tt
 
 -- the predictors
 unfoldable pub predictors_open : Unit {0}
-unfolding predictors.or_zero predictors.meaning predictors.from_both predictors.straight predictors.half predictors.mean predictors.prediction predictors.applied
+unfolding predictors.or_zero predictors.meaning predictors.from_both predictors.straight predictors.half predictors.mean
+    predictors.prediction predictors.applied
     sign.is_signed sign.value_of sign.up_to sign.fits
 predictors_open = tt
 
@@ -98,7 +99,8 @@ walk_open = tt
 -- refusals 10 and 11, and whole walks
 unfoldable pub whole_open : Unit {0}
 unfolding walk_open known.among sound.known sound.sound_main sound.sound_slow sound.sound history.in_order history.sound
-    refusals.cuts refusals.parts_of refusals.tally_sound refusals.admitted refusals.needed refusals.checked answers.handed answers.refusing answers.checked_first
+    refusals.cuts refusals.parts_of refusals.tally_sound refusals.admitted refusals.needed refusals.checked answers.handed
+    answers.refusing answers.checked_first
     walks.counted_at walks.is_reached walks.is_last walks.walked walks.checked_state walks.through_of walks.filled_of
 whole_open = tt
 

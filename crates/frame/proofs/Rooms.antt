@@ -1,10 +1,9 @@
 -- How many numbers a raw frame, a main frame and the two frames of a context hold, out of what owning them tells.
-use Rattle.std.proofs.Common.{◌≡◌, ℕ, List, map, length, sym, ◌∙◌, w32}
+use Rattle.std.proofs.Common.{◌≡◌, ℕ, List, length, w32}
 use mir.Val.{Val}
 use denote.Laws.{Is}
 use denote.Struct.Declared as declared
 use denote.Struct.Field.{uint_field, array_field}
-use lib.ListN.{length-map}
 use Rattle.raws.specs.declared.Raw.{Raw}
 use Rattle.raws.specs.contracts.Raw as raw
 use Rattle.frame.specs.declared.fields.Context.{Context}

@@ -79,7 +79,8 @@ pub unmet_at_law : (numbers : Numbers) (motor : ℕ) (ps qs : List ℕ) → unme
     → (i : ℕ) → i < length ps → i < length qs → (met numbers motor i (get_or ps i 0) ≡ true) × (met numbers motor i (get_or qs i 0) ≡ true)
 unmet_at_law numbers motor ps qs e i h k =
     rw (zero-add i) at
-    (judged_at (met numbers motor) (met numbers motor) Met Unmet (λ j f. let z : ◌≡◌ {A = ℕ} 0 1 = cc in omega arith) 0 ps qs (sym (unmet_is numbers motor 0 ps qs) ∙ e) i h k)
+    (judged_at (met numbers motor) (met numbers motor) Met Unmet (λ j f. let z : ◌≡◌ {A = ℕ} 0 1 = cc in omega arith) 0 ps qs
+    (sym (unmet_is numbers motor 0 ps qs) ∙ e) i h k)
 
 -- a field that lacks something is one of the fields
 pub unmet_below : (numbers : Numbers) (motor i : ℕ) (ps qs : List ℕ) {j : ℕ} → unmet_from numbers motor i ps qs ≡ Unmet j → j < i + length ps

@@ -1,5 +1,4 @@
 -- `frame::inter` meets its contract: it lends what it has to `inter_in`. Assumes nothing.
-use Rattle.std.proofs.Common.{rules}
 use Rattle.frame.proofs.Whole.{inter_whole}
 use Rattle.frame.proofs.inter.Goals as goal
 

@@ -1,5 +1,4 @@
 -- `frame::intra` meets its contract: it lends what it has to `intra_in`. Assumes nothing.
-use Rattle.std.proofs.Common.{rules}
 use Rattle.frame.proofs.Whole.{intra_whole}
 use Rattle.frame.proofs.intra.Goals as goal
 

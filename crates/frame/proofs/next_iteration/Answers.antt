@@ -1,5 +1,5 @@
 -- `frame::next_iteration` meets its contract: the skipped ones and one more behind the last frame's, or behind 0. Assumes nothing.
-use Rattle.std.proofs.Common.{sym, ◌∙◌, arith, rules}
+use Rattle.std.proofs.Common.{sym, ◌∙◌, arith}
 use Rattle.bits.specs.Pattern.{wrap}
 use Rattle.predictor.specs.Owes.{given}
 use Rattle.predictor.specs.Predictors.{or_zero}

@@ -1,5 +1,4 @@
 -- `frame::slow` meets its contract: it lends what it has to `slow_in`. Assumes nothing.
-use Rattle.std.proofs.Common.{rules}
 use Rattle.frame.proofs.slow.Goals as goal
 
 pub returns : goal.returns

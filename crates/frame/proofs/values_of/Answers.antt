@@ -1,9 +1,7 @@
 -- `frame::values_of` meets its contract. The invariant: the fields before `i` have their values, and the rooms from `i` on are 0.
 -- It requires as many encodings as predictors, at most 62; 62 raw numbers, last values and older values; and 62 rooms that are 0.
-use Rattle.std.proofs.Common.{◌-◌, ◌≤◌, length, arith, rules}
-use Rattle.predictor.specs.Owes.{given}
-use Rattle.frame.specs.Earlier.{fields_by}
-use Rattle.frame.proofs.Loop.{Stands, stands_first, stands_on, stands_last}
+use Rattle.std.proofs.Common.{arith, rules}
+use Rattle.frame.proofs.Loop.{stands_first, stands_on, stands_last}
 use Rattle.frame.proofs.values_of.Goals as goal
 
 pub loop-i-init : goal.loop-i-init

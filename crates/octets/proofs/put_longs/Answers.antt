@@ -1,9 +1,6 @@
 -- `octets::put_longs` meets its contract. The invariant: the first i numbers are stored, and j is the place behind them.
 -- The measure is the numbers left. It requires room for all.
-use mathlib.Core.Path.{◌≡◌, refl}
-use Prim.Native.Nat.{◌≤◌, ◌-◌, ◌+◌, ◌*◌}
-use lib.ListN.{length, take}
-use lib.Seq.{sets}
+use mathlib.Core.Path.{refl}
 use borrow.Author.Rules.{rules}
 use Rattle.octets.specs.Bytes.{longs}
 use Rattle.octets.proofs.Stores.{put_number, put_all}

@@ -1,9 +1,6 @@
 -- `octets::put_values` meets its contract. The invariant: the first i values are stored, and j is the place behind them.
 -- The measure is the values left. It requires room for all.
-use mathlib.Core.Path.{◌≡◌, refl}
-use Prim.Native.Nat.{◌≤◌, ◌-◌, ◌+◌, ◌*◌}
-use lib.ListN.{length, take}
-use lib.Seq.{sets}
+use mathlib.Core.Path.{refl}
 use borrow.Author.Rules.{rules}
 use Rattle.octets.specs.Bytes.{words}
 use Rattle.octets.proofs.Stores.{put_value, put_all}

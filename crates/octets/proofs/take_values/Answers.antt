@@ -1,8 +1,7 @@
 -- `octets::take_values` meets its contract. The invariant: the first i values are loaded, and j is the place behind their bytes.
 -- The measure is the places left. It requires the bytes of all.
-use mathlib.Core.Path.{◌≡◌, refl}
-use Prim.Native.Nat.{◌≤◌, ◌-◌, ◌+◌, ◌*◌}
-use lib.ListN.{length, take, drop, length-set}
+use mathlib.Core.Path.{refl}
+use lib.ListN.{length-set}
 use borrow.Author.Rules.{rules}
 use Rattle.octets.specs.Bytes.{nums}
 use Rattle.octets.proofs.Loads.{take_value, take_whole}

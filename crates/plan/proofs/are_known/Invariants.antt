@@ -8,7 +8,9 @@ use Rattle.plan.proofs.Needs.{Passed}
 use Rattle.plan.proofs.are_known.Given as goal
 
 abbrev pub invariant-loop-i : goal.invariant-loop-i
-invariant-loop-i l = Passed (known l.predictors l.encodings) (λ _. codes.among codes.predictors) (λ _. codes.among codes.encodings) true (λ _. false) l.predictors l.encodings l.i
+invariant-loop-i l =
+    Passed (known l.predictors l.encodings) (λ _. codes.among codes.predictors) (λ _. codes.among codes.encodings)
+    true (λ _. false) l.predictors l.encodings l.i
 
 abbrev pub decreases-loop-i : goal.decreases-loop-i
 decreases-loop-i l = length l.predictors - l.i

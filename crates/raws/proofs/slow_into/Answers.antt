@@ -1,5 +1,4 @@
 -- `raws::slow_into` meets its contract: corrupt without slow lists, else the fields. Assumes nothing.
-use borrow.Author.Rules.{rules}
 use Rattle.raws.proofs.Frames.{slow_none, slow_is}
 use Rattle.raws.proofs.slow_into.Goals as goal
 

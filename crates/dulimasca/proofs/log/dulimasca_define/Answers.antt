@@ -14,7 +14,8 @@ returns-then-buf-lt-DEFINITION c =
 
 pub returns-then-told-lt-TOLD : goal.returns-then-told-lt-TOLD
 returns-then-told-lt-TOLD c =
-    define_untold _ _ _ _ c.are_settings.ensures c.if-not-are_settings.false-raw c.if-buf-lt-DEFINITION.false c.if-told-lt-TOLD.true c.refuse-then-told-lt-TOLD.ensures
+    define_untold _ _ _ _ c.are_settings.ensures c.if-not-are_settings.false-raw c.if-buf-lt-DEFINITION.false
+    c.if-told-lt-TOLD.true c.refuse-then-told-lt-TOLD.ensures
 
 pub refuse-requires-in-Refused : goal.refuse-requires-in-Refused
 refuse-requires-in-Refused c =

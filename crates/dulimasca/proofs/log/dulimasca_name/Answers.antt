@@ -20,10 +20,12 @@ returns-then-told-lt-TOLD c =
 
 pub returns-in-At : goal.returns-in-At
 returns-in-At c =
-    name_there _ _ _ _ _ _ c.take-taken.ensures (not-false _ c.if-not-taken.false) c.kind_for-which.ensures (not-false _ c.if-not-which.false) c.if-told-lt-TOLD.false
+    name_there _ _ _ _ _ _ c.take-taken.ensures (not-false _ c.if-not-taken.false)
+    c.kind_for-which.ensures (not-false _ c.if-not-which.false) c.if-told-lt-TOLD.false
     c.name_at-stretch.ensures c.in-At.is c.tell.ensures
 
 pub returns-in-Absent : goal.returns-in-Absent
 returns-in-Absent c =
-    name_none _ _ _ _ _ _ c.take-taken.ensures (not-false _ c.if-not-taken.false) c.kind_for-which.ensures (not-false _ c.if-not-which.false) c.if-told-lt-TOLD.false
+    name_none _ _ _ _ _ _ c.take-taken.ensures (not-false _ c.if-not-taken.false)
+    c.kind_for-which.ensures (not-false _ c.if-not-which.false) c.if-told-lt-TOLD.false
     c.name_at-stretch.ensures c.in-Absent.is c.tell-in-Absent.ensures

@@ -10,7 +10,8 @@ returns-then-not-taken c =
 
 pub returns-then-not-is_sound : goal.returns-then-not-is_sound
 returns-then-not-is_sound c =
-    count_unsound _ _ _ c.take-taken.ensures (not-false _ c.if-not-taken.false) c.is_sound.ensures (not-true _ c.if-not-is_sound.true-raw) c.refuse-then-not-is_sound.ensures
+    count_unsound _ _ _ c.take-taken.ensures (not-false _ c.if-not-taken.false)
+    c.is_sound.ensures (not-true _ c.if-not-is_sound.true-raw) c.refuse-then-not-is_sound.ensures
 
 pub returns-then-told-lt-TOLD : goal.returns-then-told-lt-TOLD
 returns-then-told-lt-TOLD c =
@@ -19,5 +20,6 @@ returns-then-told-lt-TOLD c =
 
 pub returns : goal.returns
 returns c =
-    count_told _ _ _ c.take-taken.ensures (not-false _ c.if-not-taken.false) c.is_sound.ensures (not-false _ c.if-not-is_sound.false-raw) c.if-told-lt-TOLD.false
+    count_told _ _ _ c.take-taken.ensures (not-false _ c.if-not-taken.false)
+    c.is_sound.ensures (not-false _ c.if-not-is_sound.false-raw) c.if-told-lt-TOLD.false
     c.count-counted.result c.count-counted.ensures c.tally_numbers.ensures c.tell.ensures c.status_by.ensures

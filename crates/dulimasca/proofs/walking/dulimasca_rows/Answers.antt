@@ -13,7 +13,8 @@ returns-then-not-taken c =
 
 pub returns-then-not-from : goal.returns-then-not-from
 returns-then-not-from c =
-    rows_no_state _ _ _ _ _ c.take-taken.ensures (not-false _ c.if-not-taken.false) c.take-from.ensures (not-true _ c.if-not-from.true) c.refuse-then-not-from.ensures
+    rows_no_state _ _ _ _ _ c.take-taken.ensures (not-false _ c.if-not-taken.false)
+    c.take-from.ensures (not-true _ c.if-not-from.true) c.refuse-then-not-from.ensures
 
 pub returns-then-told-lt-TOLD : goal.returns-then-told-lt-TOLD
 returns-then-told-lt-TOLD c =

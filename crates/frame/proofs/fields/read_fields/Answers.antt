@@ -1,6 +1,6 @@
 -- `frame::fields::read_fields` meets its contract: what is not sound is refused;
 -- else the numbers are read first, and the values made from them. Assumes nothing.
-use Rattle.std.proofs.Common.{arith, rules}
+use Rattle.std.proofs.Common.{arith}
 use Rattle.frame.proofs.Lists.{sound_few, fields_refused, fields_got, fields_cut, fields_corrupt}
 use Rattle.frame.proofs.fields.read_fields.Goals as goal
 

@@ -1,5 +1,5 @@
 -- `frame::fields::values` meets its contract: each frame before counts if it is there. It requires a room for each field.
-use Rattle.std.proofs.Common.{refl, arith, length-take, rules}
+use Rattle.std.proofs.Common.{refl, arith, length-take}
 use Rattle.frame.proofs.Lists.{values_are}
 use Rattle.frame.proofs.Rooms.{raw_rooms, context_rooms}
 use Rattle.frame.proofs.fields.values.Goals as goal

@@ -1,5 +1,5 @@
 -- `frame::time::saturating_add_signed` meets its contract: an offset from 2 ^ 31 on is taken off. Assumes nothing.
-use Rattle.std.proofs.Common.{arith, rules}
+use Rattle.std.proofs.Common.{arith}
 use Rattle.frame.proofs.Moved.{moved_up, moved_down}
 use Rattle.frame.proofs.time.saturating_add_signed.Goals as goal
 

@@ -1,5 +1,4 @@
 -- `frame::time::straight_time` meets its contract: only behind an inter frame is the older time looked at. Assumes nothing.
-use Rattle.std.proofs.Common.{rules}
 use Rattle.predictor.specs.Predictors.{from_both}
 use Rattle.frame.specs.Earlier.{time_by, behind_inter_by}
 use Rattle.frame.proofs.time.straight_time.Goals as goal

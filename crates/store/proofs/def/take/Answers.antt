@@ -7,7 +7,8 @@ pub returns-then-buf-lt-DEFINITION : goal.returns-then-buf-lt-DEFINITION
 returns-then-buf-lt-DEFINITION c = taken_short _ c.none.ensures c.if-buf-lt-DEFINITION.true
 
 pub returns-then-take64-ne-DEFINITION_VERSION : goal.returns-then-take64-ne-DEFINITION_VERSION
-returns-then-take64-ne-DEFINITION_VERSION c = taken_other _ c.none-then-take64-ne-DEFINITION_VERSION.ensures c.take64.ensures c.if-take64-ne-DEFINITION_VERSION.true (search rules)
+returns-then-take64-ne-DEFINITION_VERSION c =
+    taken_other _ c.none-then-take64-ne-DEFINITION_VERSION.ensures c.take64.ensures c.if-take64-ne-DEFINITION_VERSION.true (search rules)
 
 pub returns : goal.returns
 returns c =

@@ -17,4 +17,9 @@ returns-in-80 c = rw c.in-80.is
 
 pub returns-in_default : goal.returns-in_default
 unfolding is_mark
-returns-in_default c = rw (ne_eqb _ 0 c.in_default.in_default-own.rest.0.0.1, ne_eqb _ 73 c.in_default.in_default-own.rest.0.1, ne_eqb _ 80 c.in_default.in_default-own.rest.1)
+returns-in_default c =
+    rw (
+      ne_eqb _ 0 c.in_default.in_default-own.rest.0.0.1,
+      ne_eqb _ 73 c.in_default.in_default-own.rest.0.1,
+      ne_eqb _ 80 c.in_default.in_default-own.rest.1,
+    )

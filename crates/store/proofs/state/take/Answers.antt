@@ -8,7 +8,8 @@ pub returns-then-buf-lt-STATE : goal.returns-then-buf-lt-STATE
 returns-then-buf-lt-STATE c = taken_none _ c.none.ensures (state_short _ c.if-buf-lt-STATE.true)
 
 pub returns-then-take64-ne-STATE_VERSION : goal.returns-then-take64-ne-STATE_VERSION
-returns-then-take64-ne-STATE_VERSION c = taken_none _ c.none-then-take64-ne-STATE_VERSION.ensures (state_other _ c.take64.ensures c.if-take64-ne-STATE_VERSION.true)
+returns-then-take64-ne-STATE_VERSION c =
+    taken_none _ c.none-then-take64-ne-STATE_VERSION.ensures (state_other _ c.take64.ensures c.if-take64-ne-STATE_VERSION.true)
 
 pub returns-then-not-is_ending : goal.returns-then-not-is_ending
 returns-then-not-is_ending c =
