@@ -53,7 +53,7 @@ module _ (d : Definition) (f : Found) (x : Raw) (p : ℕ) (t : Tally) (h : Histo
     accept_event e tells = tells ∙ accepted_is e
 
     module _ {m : MainFrame} {a : MainAnswer} {g : History} {n : ℕ} {after : List ℕ} where
-      -- that the frame is pushed each function shows itself, by `history_with`: so a wrong one is told of the function
+      -- each function shows itself that the frame is pushed, so that a wrong `history_with` is told of the function
       pub accept_intra : f ≡ Intra → pushed h (intra_of d x h) ≡ history_with d Intra x h → frame.IntraOwes d h.last x m → n ≡ fields d.main
           → after ≡ sets out 0 (take n m.values) → a ≡ main_answer p m → g ≡ pushed h m → r ≡ handed (outcome (answer.Intra a) [] t g) after
           → r ≡ accepted_as f
