@@ -1,9 +1,6 @@
 -- `event::spelt` meets its contract. The invariant: what is left of the text, read at the current place, is the whole text, read from the start.
 -- Assumes nothing.
-use Prim.Native.Nat.{◌-◌}
-use borrow.Author.Rules.{rules}
-use lib.ListN.{length}
-use Rattle.event.proofs.Texts.{Come, come_here, come_on, come_other, come_cut, come_end}
+use Rattle.event.proofs.Texts.{come_here, come_on, come_other, come_cut, come_end}
 use Rattle.event.proofs.spelt.Goals as goal
 
 pub loop-i-init : goal.loop-i-init

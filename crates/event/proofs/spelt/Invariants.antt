@@ -1,9 +1,8 @@
 -- `event::spelt` meets its contract. The invariant: what is left of the text, read at the current place, is the whole text, read from the start.
 -- Assumes nothing.
 use Prim.Native.Nat.{◌-◌}
-use borrow.Author.Rules.{rules}
 use lib.ListN.{length}
-use Rattle.event.proofs.Texts.{Come, come_here, come_on, come_other, come_cut, come_end}
+use Rattle.event.proofs.Texts.{Come}
 use Rattle.event.proofs.spelt.Given as goal
 
 abbrev pub invariant-loop-i : goal.invariant-loop-i

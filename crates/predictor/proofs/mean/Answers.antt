@@ -1,5 +1,5 @@
 -- `predictor::mean` meets its contract: the signed one is that of the turned values, turned. Assumes nothing.
-use Rattle.std.proofs.Common.{◌∙◌, arith, rules}
+use Rattle.std.proofs.Common.{◌∙◌, arith}
 use Rattle.predictor.proofs.Means.{mean_signed, mean_unsigned}
 use Rattle.predictor.proofs.mean.Goals as goal
 

@@ -1,5 +1,5 @@
 -- `predictor::straight` meets its contract: signed values are turned, and the answer turned back. Assumes nothing.
-use Rattle.std.proofs.Common.{◌∙◌, arith, rules}
+use Rattle.std.proofs.Common.{◌∙◌, arith}
 use Rattle.predictor.proofs.Lines.{straight_signed}
 use Rattle.predictor.proofs.straight.Goals as goal
 

@@ -1,5 +1,5 @@
 -- `predictor::straight_32` meets its contract: last is below 2 ^ 32, so the answer is. Assumes nothing.
-use Rattle.std.proofs.Common.{arith, rules}
+use Rattle.std.proofs.Common.{arith}
 use Rattle.predictor.proofs.Lines.{straight_below, straight_unsigned}
 use Rattle.predictor.proofs.straight_32.Goals as goal
 

@@ -1,5 +1,5 @@
 -- `predictor::straight_line` meets its contract: each way is below zero, over the top, or between. Assumes nothing.
-use Rattle.std.proofs.Common.{arith, rules}
+use Rattle.std.proofs.Common.{arith}
 use Rattle.predictor.proofs.Lines.{stays_from_below, stays_from_over, goes_on}
 use Rattle.predictor.proofs.straight_line.Goals as goal
 

@@ -1,7 +1,6 @@
 -- `raws::clear` meets its contract: all 62 rooms. Assumes nothing.
 use mathlib.Core.Path.{ap, ◌∙◌}
 use lib.ListN.{replicate}
-use borrow.Author.Rules.{rules}
 use Rattle.raws.proofs.clear.Goals as goal
 
 pub returns : goal.returns

@@ -1,9 +1,6 @@
 -- `raws::empty` meets its contract. The invariant: the rooms before `i` are empty. Assumes nothing.
-use Prim.Native.Nat.{◌-◌}
 use native.Mathlib.Omega.{arith}
-use lib.ListN.{length}
-use borrow.Author.Rules.{rules}
-use Rattle.raws.proofs.Emptied.{Emptied, emptied_first, emptied_on, emptied_all}
+use Rattle.raws.proofs.Emptied.{emptied_first, emptied_on, emptied_all}
 use Rattle.raws.proofs.empty.Goals as goal
 
 pub loop-i-init : goal.loop-i-init

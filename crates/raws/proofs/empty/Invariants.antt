@@ -1,9 +1,7 @@
 -- `raws::empty` meets its contract. The invariant: the rooms before `i` are empty. Assumes nothing.
 use Prim.Native.Nat.{◌-◌}
-use native.Mathlib.Omega.{arith}
 use lib.ListN.{length}
-use borrow.Author.Rules.{rules}
-use Rattle.raws.proofs.Emptied.{Emptied, emptied_first, emptied_on, emptied_all}
+use Rattle.raws.proofs.Emptied.{Emptied}
 use Rattle.raws.proofs.empty.Given as goal
 
 abbrev pub invariant-loop-i : goal.invariant-loop-i

@@ -1,6 +1,5 @@
 -- `raws::main_fields` meets its contract: the fields in rooms of its own. Assumes nothing.
 use mathlib.Core.Path.{◌∙◌}
-use borrow.Author.Rules.{rules}
 use Rattle.raws.proofs.main_fields.Goals as goal
 
 pub returns : goal.returns

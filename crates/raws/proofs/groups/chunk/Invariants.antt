@@ -1,8 +1,6 @@
 -- `raws::groups::chunk` meets its contract. The invariant: n fields from field i on are alike. Assumes that field i is there, as its `requires` says.
 use Prim.Native.Nat.{◌-◌}
-use native.Mathlib.Omega.{arith}
-use borrow.Author.Rules.{rules}
-use Rattle.raws.proofs.Runs.{Alike, alike_first, alike_end, alike_other, alike_full, alike_on}
+use Rattle.raws.proofs.Runs.{Alike}
 use Rattle.raws.proofs.groups.chunk.Given as goal
 
 abbrev pub invariant-loop-n : goal.invariant-loop-n

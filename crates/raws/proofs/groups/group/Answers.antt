@@ -1,6 +1,5 @@
 -- `raws::groups::group` meets its contract, arm by arm. Assumes that its encoding has groups, as its `requires` says.
 use native.Mathlib.Omega.{arith}
-use borrow.Author.Rules.{rules}
 use Rattle.raws.proofs.Encodings.{of_6, of_7, of_8, is_8}
 use Rattle.raws.proofs.groups.group.Goals as goal
 

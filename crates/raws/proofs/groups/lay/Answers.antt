@@ -1,8 +1,7 @@
 -- `raws::groups::lay` meets its contract. The invariant: the first i are laid. Assumes that there are no more than 8 places, as its `requires` says.
-use Prim.Native.Nat.{◌-◌}
 use native.Mathlib.Omega.{arith}
 use borrow.Author.Rules.{rules}
-use Rattle.raws.proofs.Laid.{Laid, laid_first, laid_on, laid_past, laid_all}
+use Rattle.raws.proofs.Laid.{laid_first, laid_on, laid_past, laid_all}
 use Rattle.raws.proofs.groups.lay.Goals as goal
 use Rattle.raws.proofs.groups.lay.Goals.{then-i-out, else-i-out}
 

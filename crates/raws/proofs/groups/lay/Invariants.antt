@@ -1,9 +1,6 @@
 -- `raws::groups::lay` meets its contract. The invariant: the first i are laid. Assumes that there are no more than 8 places, as its `requires` says.
 use Prim.Native.Nat.{◌-◌}
-use mathlib.Core.Logic.{⊎_elim}
-use native.Mathlib.Omega.{arith}
-use borrow.Author.Rules.{rules}
-use Rattle.raws.proofs.Laid.{Laid, laid_first, laid_on, laid_past, laid_all}
+use Rattle.raws.proofs.Laid.{Laid}
 use Rattle.raws.proofs.groups.lay.Given as goal
 
 abbrev pub invariant-loop-i : goal.invariant-loop-i

@@ -1,6 +1,5 @@
 -- `raws::groups::number` meets its contract: four numbers are encodings of a number by itself, and every other number is none of them. Assumes nothing.
 use native.Mathlib.Omega.{arith}
-use borrow.Author.Rules.{rules}
 use Rattle.raws.proofs.Encodings.{of_0, of_1, of_3, of_9, of_none}
 use Rattle.raws.proofs.groups.number.Goals as goal
 

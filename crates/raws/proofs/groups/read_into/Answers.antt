@@ -1,12 +1,10 @@
 -- `raws::groups::read_into` meets its contract. The invariant is `Held`; a turn is one number by itself, or one group. It requires 62 rooms, and no more
 -- fields than these.
-use Prim.Native.Nat.{◌-◌}
 use mathlib.Core.Path.{ap, ◌∙◌}
 use native.Mathlib.Omega.{arith}
-use lib.ListN.{length, length-take, replicate}
-use borrow.Author.Rules.{rules}
+use lib.ListN.{length-take, replicate}
 use Rattle.raws.proofs.Runs.{size_more}
-use Rattle.raws.proofs.Turns.{Held, held_first, one_on, one_cut, one_corrupt, held_run, held_on, held_cut, held_corrupt, held_end}
+use Rattle.raws.proofs.Turns.{held_first, one_on, one_cut, one_corrupt, held_run, held_on, held_cut, held_corrupt, held_end}
 use Rattle.raws.proofs.groups.read_into.Goals as goal
 
 pub loop-i-init : goal.loop-i-init

@@ -1,12 +1,8 @@
 -- `raws::groups::read_into` meets its contract. The invariant is `Held`; a turn is one number by itself, or one group. It requires 62 rooms, and no more
 -- fields than these.
 use Prim.Native.Nat.{◌-◌}
-use mathlib.Core.Path.{ap, ◌∙◌}
-use native.Mathlib.Omega.{arith}
-use lib.ListN.{length, length-take, replicate}
-use borrow.Author.Rules.{rules}
-use Rattle.raws.proofs.Runs.{size_more}
-use Rattle.raws.proofs.Turns.{Held, held_first, one_on, one_cut, one_corrupt, held_run, held_on, held_cut, held_corrupt, held_end}
+use lib.ListN.{length}
+use Rattle.raws.proofs.Turns.{Held}
 use Rattle.raws.proofs.groups.read_into.Given as goal
 
 abbrev pub invariant-loop-i : goal.invariant-loop-i
