@@ -74,7 +74,8 @@ module _ (d : Definition) (p : ℕ) (raw : Raw) (h : History) where
   seen_says (Accepted f m) e = frame_says d f p raw h
 
   -- a look in vain says nothing, changes no history and ends no walk
-  seen_vain : {b : Bool} (x : Seen) → vain x ≡ Searched b → (says (answer_after d x p raw h) ≡ false) × (history_after d x raw h ≡ h) × (ending_after x p ≡ Going)
+  seen_vain : {b : Bool} (x : Seen) → vain x ≡ Searched b
+      → (says (answer_after d x p raw h) ≡ false) × (history_after d x raw h ≡ h) × (ending_after x p ≡ Going)
   unfolding vain answer_after says history_after ending_after
   seen_vain Nothing e = not_searched e
   seen_vain (Passed s) e = (refl, refl, refl)

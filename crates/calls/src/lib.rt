@@ -44,8 +44,8 @@ fn is_vain(seen: Seen) -> Vain
 
 // The looks of a walk that goes on. Once a search has found nothing, none is made again.
 fn looks(d: Definition, w: Walk, s: &[u8], barren: bool, out: &mut [u32]) -> Called
-    requires w_value { (admitted d (length s.now) w ≡ true) × Rooms d (length out.old) }
-    requires ending_value { (w.tally.ending ≡ Going) × Barren barren s.now w.tally.place }
+    requires w_admitted { (admitted d (length s.now) w ≡ true) × Rooms d (length out.old) }
+    requires going { (w.tally.ending ≡ Going) × Barren barren s.now w.tally.place }
     ensures { Steps d w s.now out.old result out.new }
 {
     let history = w.history;
@@ -77,7 +77,7 @@ fn looks(d: Definition, w: Walk, s: &[u8], barren: bool, out: &mut [u32]) -> Cal
 
 // A call from an admitted walk, and with the flag of the calls before it: whole walks check once, and search the section once.
 pub fn step(d: Definition, w: Walk, s: &[u8], barren: bool, out: &mut [u32]) -> Called
-    requires w_value { (admitted d (length s.now) w ≡ true) × Rooms d (length out.old) }
+    requires w_admitted { (admitted d (length s.now) w ≡ true) × Rooms d (length out.old) }
     requires barren { Barren barren s.now w.tally.place }
     ensures { Steps d w s.now out.old result out.new }
 {

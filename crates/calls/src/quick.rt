@@ -6,7 +6,8 @@ ghost use Rattle.section.specs.declared.Ending.TheVariants.{Going};
 ghost use Rattle.section.specs.Fits.{Rooms};
 ghost use Rattle.section.specs.Lent.{walk_of};
 ghost use Rattle.section.specs.Refusals.{admitted};
-ghost use Rattle.calls.specs.Lent.{StepsIn, over_beside};
+ghost use Rattle.calls.specs.Steps.{Steps};
+ghost use Rattle.calls.specs.Lent.{called_of, over_beside};
 
 use crate::{Vain, is_vain};
 use plan::Definition;
@@ -31,9 +32,9 @@ fn looks_in(
     older: &mut [u32; 62],
     values: &mut [u32; 62],
 ) -> Stepped
-    requires older_value { (admitted d (length s.now) (walk_of w last.old older.old) ≡ true) × Rooms d 62 }
-    requires ending_value { (w.tally.ending ≡ Going) × Barren barren s.now w.tally.place }
-    ensures { StepsIn d w s.now last.old older.old result last.new older.new values.new }
+    requires walk_admitted { (admitted d (length s.now) (walk_of w last.old older.old) ≡ true) × Rooms d 62 }
+    requires going { (w.tally.ending ≡ Going) × Barren barren s.now w.tally.place }
+    ensures { Steps d (walk_of w last.old older.old) s.now (replicate 62 0) (called_of result last.new older.new) values.new }
 {
     let heads = w.heads;
     let mut tally = w.tally;
@@ -87,9 +88,9 @@ pub fn step_in(
     older: &mut [u32; 62],
     values: &mut [u32; 62],
 ) -> Stepped
-    requires older_value { (admitted d (length s.now) (walk_of w last.old older.old) ≡ true) × Rooms d 62 }
+    requires walk_admitted { (admitted d (length s.now) (walk_of w last.old older.old) ≡ true) × Rooms d 62 }
     requires barren { Barren barren s.now w.tally.place }
-    ensures { StepsIn d w s.now last.old older.old result last.new older.new values.new }
+    ensures { Steps d (walk_of w last.old older.old) s.now (replicate 62 0) (called_of result last.new older.new) values.new }
 {
     let tally = w.tally;
     let ending = tally.ending;

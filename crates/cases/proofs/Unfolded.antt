@@ -53,7 +53,8 @@ encodings_open = tt
 
 -- the predictors
 unfoldable pub predictors_open : Unit {0}
-unfolding predictors.or_zero predictors.meaning predictors.from_both predictors.straight predictors.half predictors.mean predictors.prediction predictors.applied
+unfolding predictors.or_zero predictors.meaning predictors.from_both predictors.straight predictors.half predictors.mean
+    predictors.prediction predictors.applied
     sign.is_signed sign.value_of sign.up_to sign.fits
 predictors_open = tt
 
@@ -70,11 +71,11 @@ frames_open = tt
 
 -- a log's lists
 unfoldable pub lists_open : Unit {0}
-unfolding plan.core plan.shape plan.rules plan.nothing sound.met sound.unmet_from sound.behind_time sound.unmet_main sound.unmet_slow sound.is_interval
+unfolding plan.core plan.shape plan.rules plan.nothing sound.met sound.unmet_from sound.unmet_main sound.unmet_slow sound.is_interval
     header.header_of header.lists_of header.value_of header.last_from header.newer lines.lines lines.bare lines.begins lines.headers lines.total
     items.items items.absent items.given items.part said.number_among said.predictor_of said.encoding_of
     said.blank said.trim_start said.trim_end said.unsigned said.sign_code table same
-    checks.check checks.◌orElse◌ checks.unknown_in checks.unknown_from
+    checks.check checks.◌or_else◌ checks.unknown_in checks.unknown_from
     defined.main_items defined.slow_items defined.main_absent defined.slow_absent defined.no_slow_lists defined.main_finding defined.slow_finding defined.judged
     defined.slow_fields defined.fields_of defined.in_interval defined.definition_of defined.defined
     mainLists.rounds mainLists.said mainLists.is_field mainLists.in_rounds mainLists.reached mainLists.wrong mainLists.lengths mainLists.in_lengths
@@ -98,7 +99,8 @@ walk_open = tt
 -- refusals 10 and 11, and whole walks
 unfoldable pub whole_open : Unit {0}
 unfolding walk_open known.among sound.known sound.sound_main sound.sound_slow sound.sound history.in_order history.sound
-    refusals.cuts refusals.parts_of refusals.tally_sound refusals.admitted refusals.needed refusals.checked answers.handed answers.refusing answers.checked_first
+    refusals.cuts refusals.parts_of refusals.tally_sound refusals.admitted refusals.needed refusals.checked answers.handed
+    answers.refusing answers.checked_first
     walks.counted_at walks.is_reached walks.is_last walks.walked walks.checked_state walks.through_of walks.filled_of
 whole_open = tt
 

@@ -7,7 +7,7 @@ use Rattle.definition.specs.declared.Refusal.{Refusal}
 use Rattle.definition.specs.declared.Refusal.TheVariants.{Absent, WrongLength, Interval}
 use Rattle.definition.specs.declared.Verdict.{Verdict}
 use Rattle.definition.specs.declared.Verdict.TheVariants.{Pass, Refused}
-use Rattle.definition.specs.Checks.{paper_of, Finding, found, check, ◌orElse◌}
+use Rattle.definition.specs.Checks.{paper_of, Finding, found, check, ◌or_else◌}
 
 -- a verdict that passes finds nothing, and one that refuses what its refusal says
 pub passes : (v : Verdict) → v ≡ Pass → found v ≡ none
@@ -20,11 +20,11 @@ refuses v e = ap found e
 
 -- where the first finds nothing, the second decides; else the first does
 pub else_second : {x : Finding} (y : Finding) → x ≡ none → (x or_else y) ≡ y
-unfolding ◌orElse◌
+unfolding ◌or_else◌
 else_second y e = ap (λ z. z or_else y) e
 
 pub else_first : {x : Finding} (y : Finding) (r : Refusal) → x ≡ some (paper_of r) → found (Refused r) ≡ (x or_else y)
-unfolding found ◌orElse◌
+unfolding found ◌or_else◌
 else_first y r e = ap (λ z. z or_else y) (sym e)
 
 -- the first of two, each of which is known

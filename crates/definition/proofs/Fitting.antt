@@ -14,13 +14,13 @@ use Rattle.items.specs.declared.SlowLists.{SlowLists}
 use Rattle.items.specs.Said.{unknown}
 use Rattle.plan.specs.declared.Settings.{Settings}
 use Rattle.plan.specs.declared.Numbers.{Numbers}
-use Rattle.plan.specs.Sound as sound
-use Rattle.plan.proofs.Needs.{IsEight, main_eight, slow_eight}
+use Rattle.plan.specs.declared.Need.{Need}
+use Rattle.plan.specs.declared.Need.TheVariants as need
 use Rattle.definition.specs.declared.Defined.{Defined}
 use Rattle.definition.specs.declared.Paper.{Paper}
 use Rattle.definition.specs.declared.Refusal.{Refusal}
 use Rattle.definition.specs.declared.Verdict.TheVariants.{Refused}
-use Rattle.definition.specs.Checks.{paper_of, Finding, check, ◌orElse◌, unknown_in, unknown_from}
+use Rattle.definition.specs.Checks.{paper_of, Finding, check, ◌or_else◌, unknown_in, unknown_from}
 use Rattle.definition.specs.Defined.{Answer, told, main_absent, slow_absent, main_finding, no_slow_lists, slow_finding, in_interval, judged, defined}
 use Rattle.definition.specs.MainLists.{MainItems, rounds, in_rounds, lengths, in_lengths, in_needs, judged_main}
 use Rattle.definition.specs.SlowLists.{SlowItems, slow_rounds, judged_four, judged_slow}
@@ -33,7 +33,7 @@ Fits (some p) = (p.number < 256) × (p.round < 255)
 -- ## One check after another
 
 fits_else : (a b : Finding) → Fits a → Fits b → Fits (a or_else b)
-unfolding ◌orElse◌
+unfolding ◌or_else◌
 fits_else none b f g = g
 fits_else (some p) b f g = f
 
@@ -44,7 +44,7 @@ fits_check false number place h = tt
 
 -- what stands behind a check is looked at where that does not apply
 fits_behind : (t : Bool) (number place : ℕ) (rest : Finding) → number < 256 → (t ≡ false → Fits rest) → Fits (check t number place or_else rest)
-unfolding check ◌orElse◌
+unfolding check ◌or_else◌
 fits_behind true number place rest h f = (h, omega arith)
 fits_behind false number place rest h f = f refl
 
@@ -75,27 +75,29 @@ fits_lengths : (l : MainItems) (n : ℕ) → Fits (in_lengths l n)
 unfolding in_lengths lengths
 fits_lengths l n = fits_else _ _ (fits_check _ 6 n (omega arith)) (fits_check _ 7 n (omega arith))
 
-fits_needs : (x : sound.Finding) → IsEight x → Fits (in_needs x)
+fits_needs : (x : Need) → Fits (in_needs x)
 unfolding in_needs
-fits_needs none eight = tt
-fits_needs (some x) eight = (omega (arith, eight.number refl), omega arith)
+fits_needs need.Met = tt
+fits_needs (need.Unmet field) = (omega arith, omega arith)
 
 fits_main : (l : MainItems) (numbers : Numbers) → Fits (judged_main l numbers)
 unfolding judged_main
 fits_main l numbers =
     fits_behind (ltb 64 (rounds l)) 2 (rounds l) _ (omega arith)
     (λ t.
-    fits_else _ _ (fits_rounds l (rounds l) (ltb-false 64 (rounds l) t)) (fits_else _ _ (fits_lengths l (rounds l)) (fits_needs _ (main_eight _ numbers))))
+    fits_else _ _ (fits_rounds l (rounds l) (ltb-false 64 (rounds l) t)) (fits_else _ _ (fits_lengths l (rounds l)) (fits_needs _)))
 
 fits_four : (l : SlowItems) → Fits (judged_four 16 l)
 unfolding judged_four
 fits_four l =
     fits_behind (ltb 16 (slow_rounds l)) 2 (slow_rounds l) _ (omega arith)
-    (λ t. let few = ltb-false 16 (slow_rounds l) t in fits_else _ _ (fits_from _ 0 (slow_rounds l) (omega arith)) (fits_check _ 6 (slow_rounds l) (omega arith)))
+    (λ t.
+    let few = ltb-false 16 (slow_rounds l) t in
+    fits_else _ _ (fits_from _ 0 (slow_rounds l) (omega arith)) (fits_check _ 6 (slow_rounds l) (omega arith)))
 
 fits_slow : (l : SlowItems) (numbers : Numbers) → Fits (judged_slow l numbers)
 unfolding judged_slow
-fits_slow l numbers = fits_else _ _ (fits_four l) (fits_needs _ (slow_eight _ numbers))
+fits_slow l numbers = fits_else _ _ (fits_four l) (fits_needs _)
 
 module _ (text : List ℕ) where
   fits_main_absent : (l : MainLists) → Fits (main_absent text l)

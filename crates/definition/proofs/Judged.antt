@@ -20,7 +20,7 @@ use Rattle.plan.specs.Sound.{unmet_main, unmet_slow}
 use Rattle.definition.specs.declared.Refusal.{Refusal}
 use Rattle.definition.specs.declared.Refusal.TheVariants.{TooMany}
 use Rattle.definition.specs.declared.Verdict.TheVariants.{Pass, Refused}
-use Rattle.definition.specs.Checks.{paper_of, Finding, found, check, ◌orElse◌, unknown_in, unknown_from}
+use Rattle.definition.specs.Checks.{paper_of, Finding, found, check, ◌or_else◌, unknown_in, unknown_from}
 use Rattle.definition.specs.Defined.{slow_items, slow_absent, no_slow_lists, slow_finding, judged, slow_fields, fields_of, definition_of, Answer, defined}
 use Rattle.definition.specs.MainLists.{MainItems, rounds, said, in_rounds, in_lengths, main_of, in_needs, judged_main}
 use Rattle.definition.specs.Rows.{both}
@@ -32,13 +32,13 @@ not_none r e = let z : ◌≡◌ {A = ℕ} 0 1 = cc in omega arith
 
 -- where two together find nothing, neither does
 pub else_none : (x y : Finding) → (x or_else y) ≡ none → (x ≡ none) × (y ≡ none)
-unfolding ◌orElse◌
+unfolding ◌or_else◌
 else_none none y e = (refl, e)
 else_none (some p) y e = let z : ◌≡◌ {A = ℕ} 0 1 = cc in absurd (omega arith)
 
 -- the first of three, however they are put together
 else_else : (x y z : Finding) → (x or_else y or_else z) ≡ ((x or_else y) or_else z)
-unfolding ◌orElse◌
+unfolding ◌or_else◌
 else_else none y z = refl
 else_else (some p) y z = refl
 
@@ -46,11 +46,12 @@ else_else (some p) y z = refl
 
 module _ (l : MainItems) (numbers : Numbers) {n : ℕ} (is : n ≡ rounds l) where
   pub main_too_many : 64 < n → found (Refused (TooMany n)) ≡ judged_main l numbers
-  unfolding found paper_of judged_main check ◌orElse◌
+  unfolding found paper_of judged_main check ◌or_else◌
   main_too_many lt = rw (sym is, lt-ltb 64 n lt)
 
-  pub main_judged : {f : Finding} → f ≡ (in_rounds l n or_else in_lengths l n or_else in_needs (unmet_main (main_of l n) numbers)) → n ≤ 64 → f ≡ judged_main l numbers
-  unfolding judged_main check ◌orElse◌
+  pub main_judged : {f : Finding} → f ≡ (in_rounds l n or_else in_lengths l n or_else in_needs (unmet_main (main_of l n) numbers)) → n ≤ 64
+      → f ≡ judged_main l numbers
+  unfolding judged_main check ◌or_else◌
   main_judged e le = e ∙ rw (sym is, le-ltb 64 n le)
 
 -- ## The slow lists
@@ -82,7 +83,7 @@ module _ (l : SlowItems) (numbers : Numbers) {n : ℕ} (is : n ≡ rounds (both 
   slow_rounds_law = is ∙ rounds_both l
 
   pub slow_too_many : 16 < n → found (Refused (TooMany n)) ≡ judged_slow l numbers
-  unfolding found paper_of judged_slow judged_four check ◌orElse◌
+  unfolding found paper_of judged_slow judged_four check ◌or_else◌
   slow_too_many lt = rw (sym slow_rounds_law, lt-ltb 16 n lt)
 
   abbrev lengths : Finding
@@ -92,7 +93,7 @@ module _ (l : SlowItems) (numbers : Numbers) {n : ℕ} (is : n ≡ rounds (both 
   needs = in_needs (unmet_slow (slow_of l n) numbers)
 
   pub slow_judged : {f : Finding} → f ≡ (unknown_from (said (both l)) 0 (n - 0) or_else lengths or_else needs) → n ≤ 16 → f ≡ judged_slow l numbers
-  unfolding judged_slow judged_four check ◌orElse◌
+  unfolding judged_slow judged_four check ◌or_else◌
   slow_judged e le =
       e
       ∙ ap (λ x. x or_else lengths or_else needs) (ap (unknown_from (said (both l)) 0) (sub-zero n) ∙ unknown_slow l 0 n)
@@ -108,7 +109,8 @@ module _ (text : List ℕ) (l : SlowLists) (numbers : Numbers) where
   unfolding slow_fields
   no_slow_fields e = rw e
 
-  pub some_slow : {f : Finding} → no_slow_lists l ≡ false → f ≡ (slow_absent text l or_else judged_slow (slow_items text l) numbers) → f ≡ slow_finding text l numbers
+  pub some_slow : {f : Finding} → no_slow_lists l ≡ false → f ≡ (slow_absent text l or_else judged_slow (slow_items text l) numbers)
+      → f ≡ slow_finding text l numbers
   unfolding slow_finding
   some_slow e is = is ∙ rw e
 

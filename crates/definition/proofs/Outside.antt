@@ -6,7 +6,7 @@ use Rattle.items.specs.declared.Stretch.{Stretch}
 use Rattle.items.specs.declared.Stretch.TheVariants.{At, Absent}
 use Rattle.items.specs.Items.{absent, given}
 use Rattle.plan.specs.Plan.{no_numbers}
-use Rattle.definition.specs.Checks.{Finding, refusal, check, ◌orElse◌}
+use Rattle.definition.specs.Checks.{Finding, refusal, check, ◌or_else◌}
 use Rattle.definition.specs.Defined.{slow_absent, no_slow_lists, slow_finding}
 
 -- stretches of the text `0`: one that lies in it, one beyond it, and one that ends before it starts
@@ -32,5 +32,5 @@ pub outside_refused :
     × (finding within backwards beyond beyond ≡ some (refusal 1 1 0))
     × (finding within within beyond Absent ≡ some (refusal 1 3 0))
     × (finding within within within beyond ≡ some (refusal 1 5 0))
-unfolding slow_finding no_slow_lists absent slow_absent given check ◌orElse◌
+unfolding slow_finding no_slow_lists absent slow_absent given check ◌or_else◌
 outside_refused = (refl, refl, refl, refl, refl, refl, refl)

@@ -19,12 +19,13 @@ use Rattle.plan.specs.declared.Numbers.{Numbers}
 use Rattle.plan.specs.declared.Settings.{Settings}
 use Rattle.plan.specs.Known.{among, predictors, encodings}
 use Rattle.plan.specs.Plan.{no_slow, nothing}
-use Rattle.plan.specs.Sound as sound
+use Rattle.plan.specs.declared.Need.{Need}
+use Rattle.plan.specs.declared.Need.TheVariants.{Met, Unmet}
 use Rattle.plan.specs.Sound.{known, unmet_from, unmet_slow, sound_main, sound_slow, is_interval, sound}
 use Rattle.plan.proofs.Needs.{known_all}
 use Rattle.plan.proofs.Sound.{main_sound_made, slow_sound_made, sound_made, nothing_sound}
 use Rattle.definition.specs.declared.Paper.{Paper}
-use Rattle.definition.specs.Checks.{Finding, check, ◌orElse◌, unknown_in, unknown_from}
+use Rattle.definition.specs.Checks.{Finding, check, ◌or_else◌, unknown_in, unknown_from}
 use Rattle.definition.specs.Defined.{main_items, slow_items, slow_absent, no_slow_lists, main_finding, slow_finding}
 use Rattle.definition.specs.Defined.{judged, slow_fields, fields_of, in_interval, definition_of, defined}
 use Rattle.definition.specs.MainLists.{Items, MainItems, rounds, said, in_rounds, fields_from, predictor, encoding, main_of, in_needs, judged_main}
@@ -49,10 +50,10 @@ four_none a b c d e =
     let three = else_none c d two.1 in
     (one.0, two.0, three.0, three.1)
 
-needs_none : (x : sound.Finding) → in_needs x ≡ none → x ≡ none
+needs_none : (need : Need) → in_needs need ≡ none → need ≡ Met
 unfolding in_needs
-needs_none none e = refl
-needs_none (some x) e = let z : ◌≡◌ {A = ℕ} 0 1 = cc in absurd (omega arith)
+needs_none Met e = refl
+needs_none (Unmet field) e = let z : ◌≡◌ {A = ℕ} 0 1 = cc in absurd (omega arith)
 
 -- ## Check 3
 

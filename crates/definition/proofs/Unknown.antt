@@ -19,7 +19,7 @@ use Rattle.definition.specs.declared.Refusal.TheVariants.{Unknown}
 use Rattle.definition.specs.declared.Rows.{Rows}
 use Rattle.definition.specs.declared.Verdict.{Verdict}
 use Rattle.definition.specs.declared.Verdict.TheVariants.{Pass, Refused}
-use Rattle.definition.specs.Checks.{paper_of, Finding, found, ◌orElse◌, unknown_in, unknown_from}
+use Rattle.definition.specs.Checks.{paper_of, Finding, found, ◌or_else◌, unknown_in, unknown_from}
 use Rattle.definition.specs.MainLists.{Items, said}
 use Rattle.definition.specs.Rows.{rows_of, ForMain}
 use Rattle.definition.proofs.Chain.{passes, refuses, else_second, else_first}

@@ -38,8 +38,8 @@ unfoldable pub check : Bool → (number place : ℕ) → Finding
 check applies number place = cond applies (some (refusal number place 0)) none
 
 -- the first that applies
-infixr 20 ◌orElse◌
-unfoldable pub ◌orElse◌ : Finding → Finding → Finding
+infixr 20 ◌or_else◌
+unfoldable pub ◌or_else◌ : Finding → Finding → Finding
 none or_else y = y
 some x or_else y = some x
 

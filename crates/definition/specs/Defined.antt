@@ -13,7 +13,7 @@ use Rattle.plan.specs.declared.Slow.{Slow}
 use Rattle.plan.specs.Plan.{no_slow, nothing}
 use Rattle.plan.specs.Sound.{is_interval}
 use Rattle.definition.specs.declared.Defined.{Defined}
-use Rattle.definition.specs.Checks.{Finding, found, check, ◌orElse◌}
+use Rattle.definition.specs.Checks.{Finding, found, check, ◌or_else◌}
 use Rattle.definition.specs.MainLists.{MainItems, rounds, main_of, judged_main}
 use Rattle.definition.specs.SlowLists.{SlowItems, slow_rounds, slow_of, judged_slow}
 

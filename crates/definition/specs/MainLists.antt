@@ -6,10 +6,11 @@ use Rattle.items.specs.Said.{predictor_of, encoding_of, numbered, sign_code}
 use Rattle.items.specs.Table.{table}
 use Rattle.items.specs.Text.{ascii, same}
 use Rattle.plan.specs.declared.Main.{Main}
+use Rattle.plan.specs.declared.Need.{Need}
+use Rattle.plan.specs.declared.Need.TheVariants as need
 use Rattle.plan.specs.declared.Numbers.{Numbers}
-use Rattle.plan.specs.Sound as sound
 use Rattle.plan.specs.Sound.{unmet_main}
-use Rattle.definition.specs.Checks.{Finding, refusal, check, ◌orElse◌, unknown_in, unknown_from}
+use Rattle.definition.specs.Checks.{Finding, refusal, check, ◌or_else◌, unknown_in, unknown_from}
 
 abbrev pub Items : Type 0
 Items = List (List ℕ)
@@ -122,10 +123,10 @@ main_of l n =
       signs = fields_from 2 62 n sign_code l.signs;
     }
 
--- check 8, over the finished fields: a number and a place, and no round
-unfoldable pub in_needs : sound.Finding → Finding
-in_needs none = none
-in_needs (some x) = some (refusal x.0 x.1 0)
+-- check 8, over the finished fields
+unfoldable pub in_needs : Need → Finding
+in_needs need.Met = none
+in_needs (need.Unmet field) = some (refusal 8 field 0)
 
 -- ## Checks 2 to 8 of six lists that are there
 

@@ -6,7 +6,7 @@ use Rattle.items.specs.Said.{predictor_of, encoding_of, sign_code}
 use Rattle.plan.specs.declared.Numbers.{Numbers}
 use Rattle.plan.specs.declared.Slow.{Slow}
 use Rattle.plan.specs.Sound.{unmet_slow}
-use Rattle.definition.specs.Checks.{Finding, check, ◌orElse◌, unknown_from}
+use Rattle.definition.specs.Checks.{Finding, check, ◌or_else◌, unknown_from}
 use Rattle.definition.specs.MainLists.{Items, fields_from, predictor, encoding, in_needs}
 
 pub record SlowItems : Type 0 where

@@ -1,8 +1,7 @@
 // Checks and their order: what a check says, the first of two, and the checks that main and slow lists share.
 ghost use Rattle.std.specs.Prelude.{cond, ◌≡◌, ◌-◌, ◌<◌, ◌≤◌};
 ghost use Rattle.std.proofs.Math.Option.{some, none};
-ghost use Rattle.plan.specs.Sound as Sound;
-ghost use Rattle.definition.specs.Checks.{refusal, paper_of, found, ◌orElse◌, unknown_in, unknown_from};
+ghost use Rattle.definition.specs.Checks.{refusal, paper_of, found, ◌or_else◌, unknown_in, unknown_from};
 ghost use Rattle.definition.specs.Defined.{in_interval};
 ghost use Rattle.definition.specs.MainLists.{said, in_needs};
 ghost use Rattle.definition.specs.Rows.{ForMain};
@@ -81,7 +80,7 @@ pub(crate) fn unknown_from(rows: Rows, from: usize, n: usize) -> Verdict
 
 // Check 8: what the fields' predictors need.
 pub(crate) fn unmet(need: Need) -> Verdict
-    ensures { found result ≡ in_needs (Sound.found need) }
+    ensures { found result ≡ in_needs need }
 {
     match need {
         Need::Met => Verdict::Pass,

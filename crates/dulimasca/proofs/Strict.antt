@@ -27,7 +27,8 @@ use Rattle.rows.specs.Rows as rows
 use Rattle.settings.specs.Stored.{settings_length, are_settings}
 use Rattle.store.specs.Definition.{definition_length, is_definition, definition_at}
 use Rattle.store.specs.State.{state_length, is_state}
-use Rattle.dulimasca.specs.Calls.{RowsReply, count_reply, count_by, count_of, filled, checked_fill, fill_by, fill_of, rows_reply, checked_reply, rows_by, rows_of}
+use Rattle.dulimasca.specs.Calls.{RowsReply, count_reply, count_by, count_of, filled, checked_fill, fill_by, fill_of}
+use Rattle.dulimasca.specs.Calls.{rows_reply, checked_reply, rows_by, rows_of}
 use Rattle.dulimasca.specs.Define.{settings_of, defined_reply, judged_reply, defined_by, define_of, start_of, name_reply, name_by, name_of}
 use Rattle.dulimasca.specs.Owes.{SettingsOwes, DefineOwes, StartOwes, CountOwes, FillOwes, RowsOwes, NameOwes}
 use Rattle.dulimasca.specs.Told.{Reply, reply, told_length, if_room, status_by, sort_for, kind_for}

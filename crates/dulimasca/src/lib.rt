@@ -3,6 +3,6 @@
 // A refusal writes nothing.
 #![tactic(auto)]
 
-mod log;
+pub mod log;
 mod telling;
-mod walking;
+pub mod walking;

@@ -18,8 +18,7 @@ use store::DEFINITION;
 const NO_NAME: u64 = 4;
 
 // 0, and in `buf` the settings that the log's own header lines say; or refusal 11.
-#[unsafe(no_mangle)]
-pub extern "C" fn dulimasca_settings(log: &[u8], buf: &mut [u8]) -> u64
+pub fn dulimasca_settings(log: &[u8], buf: &mut [u8]) -> u64
     ensures { SettingsOwes log.now buf.old result buf.new }
 {
     if buf.len() < SETTINGS {
@@ -72,13 +71,7 @@ fn about_log(head: Header, d: Definition) -> [u64; 8]
 
 // 0, the definition in `buf`, and in `told`: where the section begins, the items of the main and the slow lists,
 // where the main names begin and end, where the slow ones do, and the length of a row. Or a refusal, 1 to 11.
-#[unsafe(no_mangle)]
-pub extern "C" fn dulimasca_define(
-    log: &[u8],
-    chosen: &[u8],
-    buf: &mut [u8],
-    told: &mut [u8],
-) -> u64
+pub fn dulimasca_define(log: &[u8], chosen: &[u8], buf: &mut [u8], told: &mut [u8]) -> u64
     ensures { DefineOwes log.now chosen.now buf.old told.old result buf.new told.new }
 {
     if !settings::stored::are_settings(chosen) {
@@ -137,8 +130,7 @@ fn kind_for(number: u32) -> KindFor
 }
 
 // 0, and where the name of field `k` begins and ends in the list of its kind (0 main, 1 slow), both lists being lent; 4 if there is none; or refusal 10 or 11.
-#[unsafe(no_mangle)]
-pub extern "C" fn dulimasca_name(
+pub fn dulimasca_name(
     def: &[u8],
     kind: u32,
     main: &[u8],

@@ -14,8 +14,7 @@ use store::STATE;
 use walks::Sort;
 
 // 0, and the state of a walk that has not begun; or refusal 11.
-#[unsafe(no_mangle)]
-pub extern "C" fn dulimasca_start(state: &mut [u8], told: &mut [u8]) -> u64
+pub fn dulimasca_start(state: &mut [u8], told: &mut [u8]) -> u64
     ensures { StartOwes state.old told.old result state.new told.new }
 {
     if state.len() < STATE {
@@ -30,8 +29,7 @@ pub extern "C" fn dulimasca_start(state: &mut [u8], told: &mut [u8]) -> u64
 }
 
 // How a whole walk ends, 1 to 3, or refusal 10 or 11. `told`: place; main, event and slow frames; rejected trials; trials.
-#[unsafe(no_mangle)]
-pub extern "C" fn dulimasca_count(def: &[u8], s: &[u8], told: &mut [u8]) -> u64
+pub fn dulimasca_count(def: &[u8], s: &[u8], told: &mut [u8]) -> u64
     ensures { CountOwes def.now s.now told.old result told.new }
 {
     let taken = store::def::take(def);
@@ -80,8 +78,7 @@ fn sort_for(number: u32) -> SortFor
 
 // The `k`-th accepted frame of a kind (0 main, 1 slow), from 0: its letter's byte, its values in `out`, four bytes each, and in `told` its place, iteration
 // and time; or how the walk ended before it, 1 to 3, and of a cut the letter and the place; fourth the trials. Or refusal 10, or 11 with the needed bytes.
-#[unsafe(no_mangle)]
-pub extern "C" fn dulimasca_fill(
+pub fn dulimasca_fill(
     def: &[u8],
     s: &[u8],
     kind: u32,
@@ -132,8 +129,7 @@ fn refuse_untold(d: Definition, w: Walk, length: usize, room: usize) -> u64
 
 // The next rows of a walk: as many whole ones as `out` has room for, and the walk behind them in `state`. 0: there may be more; 1 to 3: how the walk ended;
 // or refusal 10, or 11 with the length of a row. `told`: what `dulimasca_count` tells, of the walk so far, and how many rows there are.
-#[unsafe(no_mangle)]
-pub extern "C" fn dulimasca_rows(
+pub fn dulimasca_rows(
     def: &[u8],
     state: &mut [u8],
     s: &[u8],

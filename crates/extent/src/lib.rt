@@ -11,7 +11,7 @@ ghost use Rattle.reader.specs.declared.Kind.TheVariants.{Event};
 ghost use Rattle.event.specs.Events.{event_read};
 ghost use Rattle.extent.specs.declared.Seen.TheVariants.{Rejected};
 ghost use Rattle.extent.specs.Extent.{closed, bare, told, judged, trial};
-ghost use Rattle.extent.specs.Owes.{SightOwes, SightIntoOwes, WithOwes};
+ghost use Rattle.extent.specs.Owes.{SightOwes, WithOwes};
 ghost use Rattle.extent.specs.Sight.{Barren, beside, GoesOn, Judges};
 
 use plan::Definition;
@@ -216,7 +216,7 @@ pub fn sight_into(
     out: &mut [u32; 62],
 ) -> Glance
     requires { Barren barren s.now place }
-    ensures { SightIntoOwes d s.now place result out.new }
+    ensures { SightOwes d s.now place (beside result out.new) }
 {
     let byte = reader::read_u8(s, Cursor { at: place });
     match byte {

@@ -13,7 +13,8 @@ use Rattle.reader.proofs.Every.{Bytes, Every, Counts, drop_each}
 use Rattle.reader.proofs.Reading.{over_over, over_after, over_map, onward_give}
 use Rattle.frame.specs.declared.MainFrame.{MainFrame}
 use Rattle.frame.specs.declared.Mark.TheVariants.{Intra, Inter}
-use Rattle.frame.specs.Frames.{or_none, values_in, intra_fields, inter_fields, slow_fields, intra_frame, inter_frame, slow_values, intra_read, inter_read, slow_read}
+use Rattle.frame.specs.Frames.{or_none, values_in, intra_fields, inter_fields, slow_fields, intra_frame, inter_frame, slow_values}
+use Rattle.frame.specs.Frames.{intra_read, inter_read, slow_read}
 use Rattle.frame.specs.Lists.{field_values, fields_read}
 use Rattle.frame.specs.Past.{Past}
 use Rattle.frame.specs.Time.{iteration_after, time_after}

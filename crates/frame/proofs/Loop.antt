@@ -1,5 +1,8 @@
 -- The loop over the fields: the values so far, and the rest of the raw numbers, make the values of all.
-use Rattle.std.proofs.Common.{◌≡◌, ℕ, ◌+◌, ◌-◌, ◌<◌, ◌≤◌, min, Bool, true, false, ltb, List, [], ◌∷◌, ◌++◌, length, get_or, take, drop, set, replicate, sym, refl, ap, ◌∙◌, ap₂, zero-add, add-one, arith, length-set, take-append-drop, drop_of_length-le, length-take, length-take-le, get_or-drop, drop-cons, get_or-take, drop-drop, take-suc-set, drop-set-lt, ltb-false, ltb-true}
+use Rattle.std.proofs.Common.{◌≡◌, ℕ, ◌+◌, ◌-◌, ◌<◌, ◌≤◌, min, Bool, true, false, ltb, List, [], ◌∷◌, ◌++◌, length, get_or, take}
+use Rattle.std.proofs.Common.{drop, set, replicate, sym, refl, ap, ◌∙◌, ap₂, zero-add, add-one, arith, length-set}
+use Rattle.std.proofs.Common.{take-append-drop, drop_of_length-le, length-take, length-take-le, get_or-drop, drop-cons}
+use Rattle.std.proofs.Common.{get_or-take, drop-drop, take-suc-set, drop-set-lt, ltb-false, ltb-true}
 use mathlib.Core.Option.{Option}
 use lib.ListN.{get_or-replicate, get_or-eq_default}
 use lib.Seq.{sets-eq}
@@ -87,7 +90,8 @@ module _ (f : Fields) (last older : Option (List ℕ)) (raws : List ℕ) {i : �
 -- what `apply` gives for field i is its value
 pub stands_on : (h g : Bool) (l o : List ℕ) {f : Fields} {raws : List ℕ} {i room : ℕ} {values : List ℕ} {signed : Bool} {x : ℕ}
     → Stands f (given h l) (given g o) raws i values → room ≡ min f.motor 61 → signed ≡ is_signed (get_or f.encodings i 0)
-    → x ≡ applied (get_or raws i 0) (prediction signed f.around (given h (get_or l i 0)) (given g (get_or o i 0)) (get_or values room 0) (get_or f.predictors i 0))
+    → x ≡ applied (get_or raws i 0)
+    (prediction signed f.around (given h (get_or l i 0)) (given g (get_or o i 0)) (get_or values room 0) (get_or f.predictors i 0))
     → (i < length f.predictors) × (length f.predictors ≤ 62) × (length raws ≡ 62) → Stands f (given h l) (given g o) raws (i + 1) (set values i x)
 unfolding prediction_at
 stands_on h g l o {f} {raws} {i} {room} {values} so r s e bounds =

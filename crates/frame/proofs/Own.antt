@@ -1,5 +1,6 @@
 -- A frame's own values: a prediction reads them below its field, there are as many as raw numbers, and each number keeps to its bits.
-use Rattle.std.proofs.Common.{◌≡◌, ℕ, zero, suc, ◌+◌, ◌-◌, ◌^◌, ◌<◌, ◌≤◌, Bool, true, false, eqb, List, [], ◌∷◌, ◌++◌, length, get_or, take, ℤ, pos, negsuc, refl, ◌∙◌, arith, length-append, eqb-true}
+use Rattle.std.proofs.Common.{◌≡◌, ℕ, zero, suc, ◌+◌, ◌-◌, ◌^◌, ◌<◌, ◌≤◌, Bool, true, false, eqb, List, [], ◌∷◌, ◌++◌, length}
+use Rattle.std.proofs.Common.{get_or, take, ℤ, pos, negsuc, refl, ◌∙◌, arith, length-append, eqb-true}
 use mathlib.Core.Option.{Option}
 use lib.ListN.{get_or-append}
 use Rattle.bits.specs.Pattern.{wrap}
@@ -48,7 +49,8 @@ module _ (f : Fields) (l o : Option (List ℕ)) where
   behind_below : (own xs : List ℕ) → ((j : ℕ) → get_or own j 0 < 2 ^ 32) → (j : ℕ) → get_or (values_behind f l o own xs) j 0 < 2 ^ 32
   unfolding values_behind
   behind_below own [] each = each
-  behind_below own (x ∷ xs) each = behind_below _ xs (one_more own _ (applied_below x _) each)
+  behind_below own (x ∷ xs) each =
+      behind_below (own ++ (applied x (prediction_at f l o own (length own)) ∷ [])) xs (one_more own _ (applied_below x _) each)
 
   -- every value has 32 bits, whatever the raw numbers and the past
   pub values_below : (xs : List ℕ) (j : ℕ) → get_or (values_of f l o xs) j 0 < 2 ^ 32

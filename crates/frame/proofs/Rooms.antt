@@ -1,10 +1,9 @@
 -- How many numbers a raw frame, a main frame and the two frames of a context hold, out of what owning them tells.
-use Rattle.std.proofs.Common.{◌≡◌, ℕ, List, map, length, sym, ◌∙◌, w32}
+use Rattle.std.proofs.Common.{◌≡◌, ℕ, List, length, w32}
 use mir.Val.{Val}
 use denote.Laws.{Is}
 use denote.Struct.Declared as declared
 use denote.Struct.Field.{uint_field, array_field}
-use lib.ListN.{length-map}
 use Rattle.raws.specs.declared.Raw.{Raw}
 use Rattle.raws.specs.contracts.Raw as raw
 use Rattle.frame.specs.declared.fields.Context.{Context}
@@ -12,10 +11,10 @@ use Rattle.frame.specs.declared.MainFrame.{MainFrame}
 use Rattle.frame.specs.contracts.MainFrame as frame
 use Rattle.frame.specs.contracts.fields.Context as context
 
-rooms : (l : List ℕ) {vs : List Val} → Is (array_field (uint_field w32) 62).row (map (λ v. v) l) vs → length l ≡ 62
-rooms l g = sym (length-map l (λ v. v)) ∙ g.1.0.1
+rooms : (l : List ℕ) {vs : List Val} → Is (array_field (uint_field w32) 62).row l vs → length l ≡ 62
+rooms l g = g.1.0.1
 
--- `c.good` has such a part for each parameter
+-- `c.well_formed` has such a part for each parameter
 pub raw_rooms : (x : Raw) {vs : List Val} → Is (declared.row raw.the_type) x vs → length x.fields ≡ 62
 raw_rooms x g = rooms x.fields g.1.1.1.1.0
 

@@ -19,7 +19,6 @@ use Rattle.frame.specs.Owes.{HeadOwes, IntraOwes, InterOwes, SlowOwes}
 use Rattle.frame.specs.Parts.{frame_of}
 use Rattle.frame.specs.Past.{past_of, body_of}
 use Rattle.frame.specs.Time.{held, straight_time, skipped_after, iteration_after, time_after}
-use Rattle.frame.specs.Values.{Fields}
 use Rattle.frame.proofs.Bodies.{given_values, given_iteration, time_by_law, behind_by}
 
 -- ## Fields

@@ -2,12 +2,13 @@
 // The second half of the Rust's frame/mod.rs, with parse_intra and parse_inter of main/def.rs.
 #![tactic(auto)]
 
-ghost use Rattle.std.specs.Prelude.{◌≡◌, ◌+◌, ◌≤◌, min, length, replicate};
+ghost use Rattle.std.specs.Prelude.{◌≡◌, ℕ, ◌+◌, ◌≤◌, min, length, replicate};
 ghost use Rattle.bits.specs.Pattern.{wrap};
 ghost use Rattle.predictor.specs.Owes.{given};
 ghost use Rattle.predictor.specs.Predictors.{or_zero};
 ghost use Rattle.frame.specs.Earlier.{is_there, fields_by, laid};
-ghost use Rattle.frame.specs.Owes.{AbsentOwes, HeadOwes, WithOwes, IntraInOwes, InterInOwes, SlowInOwes, IntraOwes, InterOwes, SlowOwes};
+ghost use Rattle.frame.specs.Owes.{AbsentOwes, HeadOwes, WithOwes, IntraOwes, InterOwes, SlowOwes};
+ghost use Rattle.frame.specs.Parts.{frame_of, raw_of};
 
 use crate::time::time_after;
 use plan::Definition;
@@ -113,7 +114,7 @@ fn values_of(
 )
     requires predictors_len { (length predictors.now ≡ length encodings.now) × (length predictors.now ≤ 62) }
     requires raws_len { (length raws.now ≡ 62) × (length last.now ≡ 62) × (length older.now ≡ 62) }
-    requires values_value { values.old ≡ replicate 62 0 }
+    requires values_clear { values.old ≡ replicate 62 0 }
     ensures { values.new ≡
         laid (fields_by predictors.now encodings.now motor around)
         (given has_last last.now) (given has_older older.now) raws.now }
@@ -144,7 +145,7 @@ pub fn intra_in(
     raws: &[u32; 62],
     values: &mut [u32; 62],
 ) -> Head
-    ensures { IntraInOwes d last last_values.now iteration time raws.now result values.new }
+    ensures { IntraOwes d (frame_of last last_values.now) (raw_of iteration time raws.now) (frame_of result values.new) }
 {
     raws::clear(values);
     let main = d.main;
@@ -191,7 +192,7 @@ fn next_iteration(skipped: u32, mark: Mark, iteration: u32) -> u32
     step
 }
 
-// An inter frame. Its raw numbers have no iteration.
+// An inter frame. Its raw numbers have no iteration, so its promise is for any.
 pub fn inter_in(
     d: Definition,
     last: Head,
@@ -202,7 +203,7 @@ pub fn inter_in(
     raws: &[u32; 62],
     values: &mut [u32; 62],
 ) -> Head
-    ensures { InterInOwes d last last_values.now older older_values.now time raws.now result values.new }
+    ensures { (k : ℕ) → InterOwes d (frame_of last last_values.now) (frame_of older older_values.now) (raw_of k time raws.now) (frame_of result values.new) }
 {
     raws::clear(values);
     let main = d.main;
@@ -241,7 +242,7 @@ pub fn inter_in(
 
 // The values of a slow frame, in 62 rooms as a main frame's. Its raw numbers have neither iteration nor time, and no history has a part in it.
 pub fn slow_in(d: Definition, raws: &[u32; 62], values: &mut [u32; 62])
-    ensures { SlowInOwes d raws.now values.new }
+    ensures { (k t : ℕ) → SlowOwes d (raw_of k t raws.now) values.new }
 {
     raws::clear(values);
     let slow = d.slow;

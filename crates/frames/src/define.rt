@@ -94,10 +94,8 @@ pub fn main(is_inter: bool, s: &[u8]) -> Defined {
 
 fn sixteen(codes: [u8; 62]) -> [u8; 16] {
     let mut first = [0u8; 16];
-    let mut i = 0;
-    while i < 16 {
+    for i in 0..16 {
         first[i] = codes[i];
-        i += 1;
     }
     first
 }

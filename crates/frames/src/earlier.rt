@@ -76,13 +76,11 @@ fn values_of(text: &[u8], n: usize) -> Values {
 }
 
 fn kind_of(text: &[u8]) -> Mark {
-    if check::same(text, b"I") {
-        return Mark::Intra;
+    match text {
+        b"I" => Mark::Intra,
+        b"P" => Mark::Inter,
+        _ => Mark::Absent,
     }
-    if check::same(text, b"P") {
-        return Mark::Inter;
-    }
-    Mark::Absent
 }
 
 fn with_kind(mark: Mark, iteration: &[u8], time: &[u8], values: &[u8], n: usize) -> Earlier {
@@ -112,7 +110,7 @@ fn with_kind(mark: Mark, iteration: &[u8], time: &[u8], values: &[u8], n: usize)
 
 // The frame of a word, with n values.
 pub fn frame_of(word: &[u8], n: usize) -> Earlier {
-    if check::same(word, b"-") {
+    if word == b"-".as_slice() {
         return no_frame(true);
     }
     let behind_kind = rest(word, b'/');

@@ -7,9 +7,18 @@ use frame::fields::{Context, Taken};
 use plan::Numbers;
 use predictor::Surroundings;
 use reader::Cursor;
+use std::io;
+use std::io::Write;
 use words::three::Three;
 
-fn answer(n: usize, fields: Fields, motor: usize, numbers: Numbers, s: &[u8]) {
+fn answer(
+    out: &mut impl Write,
+    n: usize,
+    fields: Fields,
+    motor: usize,
+    numbers: Numbers,
+    s: &[u8],
+) -> io::Result<()> {
     let encodings = fields.encodings;
     let predictors = fields.predictors;
     let around = Surroundings {
@@ -29,16 +38,16 @@ fn answer(n: usize, fields: Fields, motor: usize, numbers: Numbers, s: &[u8]) {
     match taken {
         Taken::Next(behind) => {
             let values = read.values;
-            show::fields(values, n, behind);
+            show::fields(out, values, n, behind)
         }
-        Taken::Cut => show::text(b"cut"),
-        Taken::Corrupt => show::text(b"corrupt"),
-        Taken::Refused(number, place) => show::refused(number, place),
+        Taken::Cut => show::text(out, b"cut"),
+        Taken::Corrupt => show::text(out, b"corrupt"),
+        Taken::Refused(number, place) => show::refused(out, number, place),
     }
 }
 
 // Each of the next two answers whether the line is a case, and prints nothing where it is not.
-fn with_count(label: &[u8], n: usize, rest: &[u8]) -> bool {
+fn with_count(out: &mut impl Write, label: &[u8], n: usize, rest: &[u8]) -> io::Result<bool> {
     let behind_encodings = words::behind(rest);
     let behind_predictors = words::behind(behind_encodings);
     let behind_motor = words::behind(behind_predictors);
@@ -48,30 +57,30 @@ fn with_count(label: &[u8], n: usize, rest: &[u8]) -> bool {
     let mut space = [0u8; LONGEST];
     let section = words::section::bytes(words::three::behind_three(behind_motor), &mut space);
     if !fields.are {
-        return false;
+        return Ok(false);
     }
     let Number::Is(motor) = number else {
-        return false;
+        return Ok(false);
     };
     let Three::Are(numbers) = three else {
-        return false;
+        return Ok(false);
     };
     if !section.is_hex {
-        return false;
+        return Ok(false);
     }
     let k = section.length;
-    show::text(label);
-    show::text(b" = ");
-    answer(n, fields, motor, numbers, &space[..k]);
-    true
+    show::text(out, label)?;
+    show::text(out, b" = ")?;
+    answer(out, n, fields, motor, numbers, &space[..k])?;
+    Ok(true)
 }
 
-pub fn case(rest: &[u8]) -> bool {
+pub fn case(out: &mut impl Write, rest: &[u8]) -> io::Result<bool> {
     let label = words::first(rest);
     let behind_label = words::behind(rest);
     let number = digits::decimal(words::first(behind_label));
     let Number::Is(n) = number else {
-        return false;
+        return Ok(false);
     };
-    with_count(label, n, words::behind(behind_label))
+    with_count(out, label, n, words::behind(behind_label))
 }

@@ -2,7 +2,8 @@
 // A case is a line, so that vectors are data and not code: vectors/README.md says what cases there are and how they are made.
 #![tactic(auto)]
 
-use libc::STDIN_FILENO;
+use std::io;
+use std::io::{BufWriter, Write};
 
 mod define;
 mod earlier;
@@ -18,53 +19,47 @@ mod slow;
 const LONGEST: usize = 512;
 
 // Answers whether the line is a case, and prints nothing where it is not.
-fn case(line: &[u8]) -> bool {
-    let kind = words::first(line);
+fn case(out: &mut impl Write, line: &[u8]) -> io::Result<bool> {
     let rest = words::behind(line);
-    if check::same(kind, b"predict") {
-        return predict::case(line, rest);
+    match words::first(line) {
+        b"predict" => predict::case(out, line, rest),
+        b"intra" => intra::case(out, rest),
+        b"inter" => inter::case(out, rest),
+        b"slow" => slow::case(out, rest),
+        b"fields" => fields::case(out, rest),
+        _ => Ok(false),
     }
-    if check::same(kind, b"intra") {
-        return intra::case(rest);
-    }
-    if check::same(kind, b"inter") {
-        return inter::case(rest);
-    }
-    if check::same(kind, b"slow") {
-        return slow::case(rest);
-    }
-    if check::same(kind, b"fields") {
-        return fields::case(rest);
-    }
-    false
 }
 
 // A line that begins with # is a heading of the table, and is copied.
-fn line(text: &[u8]) {
+fn line(out: &mut impl Write, text: &[u8]) -> io::Result<()> {
     if words::is_heading(text) {
-        show::text(text);
-    } else if !case(text) {
-        show::text(b"? ");
-        show::text(text);
+        show::text(out, text)?;
+    } else if !case(out, text)? {
+        show::text(out, b"? ")?;
+        show::text(out, text)?;
     }
-    show::text(b"\n");
+    show::text(out, b"\n")
 }
 
-fn lines(text: &[u8]) {
+fn lines(out: &mut impl Write, text: &[u8]) -> io::Result<()> {
     let mut at = 0;
     while at < text.len() {
         let rest = &text[at..];
         let n = digits::until(rest, b'\n');
-        line(&rest[..n]);
+        line(out, &rest[..n])?;
         at += n;
         if at < text.len() {
             at += 1;
         }
     }
+    Ok(())
 }
 
-fn main() {
-    let mut text = io::large_buffer();
-    let n = io::read_full(STDIN_FILENO, &mut text);
-    lines(&text[..n]);
+fn main(rt: HostRuntime) -> io::Result<()> {
+    let mut text = terminal::large_buffer();
+    let n = terminal::read_full(&mut rt.stdin(), &mut text)?;
+    let mut out = BufWriter::new(rt.alloc(), rt.stdout())?;
+    lines(&mut out, &text[..n])?;
+    out.flush()
 }

@@ -52,7 +52,7 @@ pub fn pattern_of(word: &[u8]) -> Pattern {
 
 // The field named motor[0] of n fields, or n.
 pub fn motor(word: &[u8], n: usize) -> Number {
-    if check::same(word, b"-") {
+    if word == b"-".as_slice() {
         return Number::Is(n);
     }
     digits::decimal(word)
@@ -72,7 +72,7 @@ fn no_codes(are: bool) -> Codes
 fn codes_of(word: &[u8], top: u8) -> Codes
     ensures { result.n ≤ 62 }
 {
-    if check::same(word, b"-") {
+    if word == b"-".as_slice() {
         return no_codes(true);
     }
     let n = word.len();
@@ -83,8 +83,7 @@ fn codes_of(word: &[u8], top: u8) -> Codes
         return no_codes(false);
     }
     let mut codes = [0u8; 62];
-    let mut i = 0;
-    while i < n {
+    for i in 0..n {
         let digit = words::hex(b'0', word[i]);
         let Byte::Is(b) = digit else {
             return no_codes(false);
@@ -93,7 +92,6 @@ fn codes_of(word: &[u8], top: u8) -> Codes
             return no_codes(false);
         }
         codes[i] = b;
-        i += 1;
     }
     Codes {
         are: true,

@@ -2,6 +2,8 @@
 use crate::parse::Pattern;
 use crate::{parse, show};
 use predictor::{Before, Surroundings};
+use std::io;
+use std::io::Write;
 use words::Byte;
 use words::three::Three;
 
@@ -22,7 +24,7 @@ struct Past {
 }
 
 fn past_of(word: &[u8]) -> Past {
-    if check::same(word, b"-") {
+    if word == b"-".as_slice() {
         return Past {
             is_right: true,
             is: false,
@@ -44,49 +46,68 @@ fn past_of(word: &[u8]) -> Past {
     }
 }
 
-fn answer(line: &[u8], field: Field, raw: u32, around: Surroundings, motor_0: u32) {
+fn answer(
+    out: &mut impl Write,
+    line: &[u8],
+    field: Field,
+    raw: u32,
+    around: Surroundings,
+    motor_0: u32,
+) -> io::Result<()> {
     let p = field.predictor;
     let signed = field.signed;
     let before = field.before;
-    show::text(line);
-    show::text(b" = ");
-    show::pattern(predictor::predict(p, signed, around, before, motor_0));
-    show::text(b" ");
-    show::pattern(predictor::apply(p, raw, signed, around, before, motor_0));
+    show::text(out, line)?;
+    show::text(out, b" = ")?;
+    show::pattern(out, predictor::predict(p, signed, around, before, motor_0))?;
+    show::text(out, b" ")?;
+    show::pattern(
+        out,
+        predictor::apply(p, raw, signed, around, before, motor_0),
+    )
 }
 
 // Each of the next four answers whether the line is a case, and prints nothing where it is not.
-fn with_raw(line: &[u8], field: Field, raw: u32, skipped: u32, motor_0: u32, rest: &[u8]) -> bool {
+fn with_raw(
+    out: &mut impl Write,
+    line: &[u8],
+    field: Field,
+    raw: u32,
+    skipped: u32,
+    motor_0: u32,
+    rest: &[u8],
+) -> io::Result<bool> {
     let three = words::three::numbers(rest);
     let Three::Are(numbers) = three else {
-        return false;
+        return Ok(false);
     };
     let behind_throttle = words::behind(rest);
     let last = words::behind(behind_throttle);
     if digits::until(last, b' ') < last.len() {
-        return false;
+        return Ok(false);
     }
     let around = Surroundings { numbers, skipped };
-    answer(line, field, raw, around, motor_0);
-    true
+    answer(out, line, field, raw, around, motor_0)?;
+    Ok(true)
 }
 
-fn with_field(line: &[u8], field: Field, rest: &[u8]) -> bool {
+fn with_field(out: &mut impl Write, line: &[u8], field: Field, rest: &[u8]) -> io::Result<bool> {
     let behind_raw = words::behind(rest);
     let behind_skipped = words::behind(behind_raw);
     let first = parse::pattern_of(words::first(rest));
     let second = parse::pattern_of(words::first(behind_raw));
     let third = parse::pattern_of(words::first(behind_skipped));
     let Pattern::Is(raw) = first else {
-        return false;
+        return Ok(false);
     };
     let Pattern::Is(skipped) = second else {
-        return false;
+        return Ok(false);
     };
     let Pattern::Is(motor_0) = third else {
-        return false;
+        return Ok(false);
     };
     with_raw(
+        out,
         line,
         field,
         raw,
@@ -96,15 +117,21 @@ fn with_field(line: &[u8], field: Field, rest: &[u8]) -> bool {
     )
 }
 
-fn with_predictor(line: &[u8], predictor: u8, signed: bool, rest: &[u8]) -> bool {
+fn with_predictor(
+    out: &mut impl Write,
+    line: &[u8],
+    predictor: u8,
+    signed: bool,
+    rest: &[u8],
+) -> io::Result<bool> {
     let behind_last = words::behind(rest);
     let last = past_of(words::first(rest));
     let older = past_of(words::first(behind_last));
     if !last.is_right {
-        return false;
+        return Ok(false);
     }
     if !older.is_right {
-        return false;
+        return Ok(false);
     }
     let before = Before {
         has_last: last.is,
@@ -117,19 +144,25 @@ fn with_predictor(line: &[u8], predictor: u8, signed: bool, rest: &[u8]) -> bool
         signed,
         before,
     };
-    with_field(line, field, words::behind(behind_last))
+    with_field(out, line, field, words::behind(behind_last))
 }
 
-pub fn case(line: &[u8], rest: &[u8]) -> bool {
+pub fn case(out: &mut impl Write, line: &[u8], rest: &[u8]) -> io::Result<bool> {
     let behind_predictor = words::behind(rest);
     let first = parse::code_of(words::first(rest));
     let second = parse::code_of(words::first(behind_predictor));
     let Byte::Is(predictor) = first else {
-        return false;
+        return Ok(false);
     };
     let Byte::Is(encoding) = second else {
-        return false;
+        return Ok(false);
     };
     let signed = predictor::is_signed(encoding);
-    with_predictor(line, predictor, signed, words::behind(behind_predictor))
+    with_predictor(
+        out,
+        line,
+        predictor,
+        signed,
+        words::behind(behind_predictor),
+    )
 }

@@ -1,56 +1,58 @@
-// Frames on standard output: their numbers and the place behind them, all of them unsigned.
+// Frames: their numbers and the place behind them, all of them unsigned.
 use frame::MainFrame;
-use libc::STDOUT_FILENO;
 use reader::Cursor;
+use std::io;
+use std::io::Write;
 
-pub fn text(s: &[u8]) {
-    io::write_all(STDOUT_FILENO, s);
+pub fn text(out: &mut impl Write, s: &[u8]) -> io::Result<()> {
+    out.write_all(s)
 }
 
-fn decimal(n: u64) {
-    io::print_decimal(STDOUT_FILENO, n);
+fn decimal(out: &mut impl Write, n: u64) -> io::Result<()> {
+    write!(out, "{n}")
 }
 
-pub fn pattern(v: u32) {
-    decimal(v as u64);
+pub fn pattern(out: &mut impl Write, v: u32) -> io::Result<()> {
+    decimal(out, v as u64)
 }
 
 // The first n values, of which a frame has 62 at the most, each with a space behind it.
-fn values(v: [u32; 62], n: usize) {
-    let mut i = 0;
-    while i < 62 {
-        if i < n {
-            pattern(v[i]);
-            text(b" ");
-        }
-        i += 1;
+fn values(out: &mut impl Write, v: [u32; 62], n: usize) -> io::Result<()> {
+    for v in v.iter().take(n) {
+        pattern(out, *v)?;
+        text(out, b" ")?;
     }
+    Ok(())
 }
 
-fn next(behind: Cursor) {
-    text(b"next ");
-    decimal(behind.at as u64);
+fn next(out: &mut impl Write, behind: Cursor) -> io::Result<()> {
+    text(out, b"next ")?;
+    decimal(out, behind.at as u64)
 }
 
-pub fn main_frame(frame: MainFrame, n: usize, behind: Cursor) {
-    let v = frame.values;
-    pattern(frame.iteration);
-    text(b" ");
-    decimal(frame.time);
-    text(b" ");
-    values(v, n);
-    next(behind);
+pub fn main_frame(
+    out: &mut impl Write,
+    frame: MainFrame,
+    n: usize,
+    behind: Cursor,
+) -> io::Result<()> {
+    pattern(out, frame.iteration)?;
+    text(out, b" ")?;
+    decimal(out, frame.time)?;
+    text(out, b" ")?;
+    values(out, frame.values, n)?;
+    next(out, behind)
 }
 
 // A slow frame, or fields by lists.
-pub fn fields(v: [u32; 62], n: usize, behind: Cursor) {
-    values(v, n);
-    next(behind);
+pub fn fields(out: &mut impl Write, v: [u32; 62], n: usize, behind: Cursor) -> io::Result<()> {
+    values(out, v, n)?;
+    next(out, behind)
 }
 
-pub fn refused(number: u8, place: usize) {
-    text(b"refused ");
-    decimal(number as u64);
-    text(b" ");
-    decimal(place as u64);
+pub fn refused(out: &mut impl Write, number: u8, place: usize) -> io::Result<()> {
+    text(out, b"refused ")?;
+    decimal(out, number as u64)?;
+    text(out, b" ")?;
+    decimal(out, place as u64)
 }

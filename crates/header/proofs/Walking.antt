@@ -92,5 +92,6 @@ module _ (text : List ℕ) (at : ℕ) {b : Bool} (h : at < length text) (e : b �
         let here : newer prefix at (first_line (drop at text)) found ≡ newer prefix at (drop at text) found = rw bare_first in
         record {
           is =
-              come.is ∙ ap (λ ls. last_from prefix at ls found) step ∙ ap₂ (λ p s. last_from prefix p (headers (lines (drop next text))) s) width (here ∙ sym m);
+              come.is ∙ ap (λ ls. last_from prefix at ls found) step
+              ∙ ap₂ (λ p s. last_from prefix p (headers (lines (drop next text))) s) width (here ∙ sym m);
         }

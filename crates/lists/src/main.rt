@@ -4,7 +4,8 @@
 
 ghost use Rattle.std.specs.Prelude.{◌≡◌, length};
 
-use libc::STDIN_FILENO;
+use std::io;
+use std::io::{BufWriter, Write};
 
 mod define;
 mod name;
@@ -16,47 +17,43 @@ mod show;
 const LONGEST: usize = 2048;
 
 // Answers whether the line is a case, and prints nothing where it is not.
-fn case(line: &[u8]) -> bool {
-    let kind = words::first(line);
+fn case(out: &mut impl Write, line: &[u8]) -> io::Result<bool> {
     let rest = words::behind(line);
-    if check::same(kind, b"define") {
-        return define::case(rest);
+    match words::first(line) {
+        b"define" => define::case(out, rest),
+        b"name" => name::case(out, rest),
+        b"said" => said::case(out, rest),
+        _ if line == b"shapes".as_slice() => {
+            shapes::all(out)?;
+            Ok(true)
+        }
+        _ => Ok(false),
     }
-    if check::same(kind, b"name") {
-        return name::case(rest);
-    }
-    if check::same(kind, b"said") {
-        return said::case(rest);
-    }
-    if check::same(line, b"shapes") {
-        shapes::all();
-        return true;
-    }
-    false
 }
 
 // A line that begins with # is a heading of the table, and is copied.
-fn line(text: &[u8]) {
+fn line(out: &mut impl Write, text: &[u8]) -> io::Result<()> {
     if words::is_heading(text) {
-        show::text(text);
-    } else if !case(text) {
-        show::text(b"? ");
-        show::text(text);
+        show::text(out, text)?;
+    } else if !case(out, text)? {
+        show::text(out, b"? ")?;
+        show::text(out, text)?;
     }
-    show::text(b"\n");
+    show::text(out, b"\n")
 }
 
-fn lines(text: &[u8]) {
+fn lines(out: &mut impl Write, text: &[u8]) -> io::Result<()> {
     let mut at = 0;
     while at < text.len() {
         let rest = &text[at..];
         let n = digits::until(rest, b'\n');
-        line(&rest[..n]);
+        line(out, &rest[..n])?;
         at += n;
         if at < text.len() {
             at += 1;
         }
     }
+    Ok(())
 }
 
 // The ensures keeps the prover from counting the zeros where the buffer is lent.
@@ -66,8 +63,10 @@ fn space() -> [u8; 131072]
     [0u8; 131072]
 }
 
-fn main() {
+fn main(rt: HostRuntime) -> io::Result<()> {
     let mut space = space();
-    let n = io::read_full(STDIN_FILENO, &mut space);
-    lines(&space[..n]);
+    let n = terminal::read_full(&mut rt.stdin(), &mut space)?;
+    let mut out = BufWriter::new(rt.alloc(), rt.stdout())?;
+    lines(&mut out, &space[..n])?;
+    out.flush()
 }

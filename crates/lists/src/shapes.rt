@@ -6,6 +6,8 @@ ghost use Rattle.std.specs.Prelude.{◌<◌};
 use crate::show;
 use definition::Verdict;
 use items::{Lists, MainLists, SlowLists, Stretch};
+use std::io;
+use std::io::Write;
 
 // The first items of a list of names, and one more than `more`.
 fn some_names(more: usize) -> Stretch {
@@ -25,7 +27,7 @@ fn some_digits(start: usize, more: usize) -> Stretch
     Stretch::At(start, start + 2 * more + 1)
 }
 
-fn shape(line: usize, column: usize)
+fn shape(out: &mut impl Write, line: usize, column: usize) -> io::Result<()>
     requires { (line < 125) × (column < 125) }
 {
     let text = b"loopIteration,time,a,a,a 0,0,0,0,0 6,2,0,0,0 1,1,0,0,0 9,0,0,0,0";
@@ -46,28 +48,26 @@ fn shape(line: usize, column: usize)
     let lists = Lists { main, slow };
     let verdict = definition::define_plainly(text, lists).verdict;
     match verdict {
-        Verdict::Pass => show::text(b"."),
-        Verdict::Refused(why) => show::code(why.paper().number),
+        Verdict::Pass => show::text(out, b"."),
+        Verdict::Refused(why) => show::code(out, why.paper().number),
     }
 }
 
-fn shapes(line: usize)
+fn shapes(out: &mut impl Write, line: usize) -> io::Result<()>
     requires { line < 125 }
 {
-    let mut column = 0;
-    while column < 125 {
-        shape(line, column);
-        column += 1;
+    for column in 0..125 {
+        shape(out, line, column)?;
     }
+    Ok(())
 }
 
-pub fn all() {
-    let mut line = 0;
-    while line < 125 {
+pub fn all(out: &mut impl Write) -> io::Result<()> {
+    for line in 0..125 {
         if 0 < line {
-            show::text(b"\n");
+            show::text(out, b"\n")?;
         }
-        shapes(line);
-        line += 1;
+        shapes(out, line)?;
     }
+    Ok(())
 }

@@ -1,196 +1,196 @@
-// What a log's lists came to, on standard output: a refusal by its number and place, or the definition with the names of its fields.
+// What a log's lists came to: a refusal by its number and place, or the definition with the names of its fields.
 use definition::Refusal;
 use items::{Lists, Stretch};
-use libc::STDOUT_FILENO;
 use names::Kind;
 use plan::{Definition, FrameInterval, HeaderNumber, Main, Numbers, Slow};
+use std::io;
+use std::io::Write;
 
-pub fn text(s: &[u8]) {
-    io::write_all(STDOUT_FILENO, s);
+pub fn text(out: &mut impl Write, s: &[u8]) -> io::Result<()> {
+    out.write_all(s)
 }
 
-fn decimal(n: u64) {
-    io::print_decimal(STDOUT_FILENO, n);
+fn decimal(out: &mut impl Write, n: u64) -> io::Result<()> {
+    write!(out, "{n}")
 }
 
-pub fn number(n: usize) {
-    decimal(n as u64);
+pub fn number(out: &mut impl Write, n: usize) -> io::Result<()> {
+    decimal(out, n as u64)
 }
 
-pub fn code(v: u8) {
-    decimal(v as u64);
+pub fn code(out: &mut impl Write, v: u8) -> io::Result<()> {
+    decimal(out, v as u64)
 }
 
 // Only refusal 3 has a round beside its place.
-pub fn refusal(why: Refusal) {
+pub fn refusal(out: &mut impl Write, why: Refusal) -> io::Result<()> {
     let paper = why.paper();
-    text(b"refused ");
-    code(paper.number);
-    text(b" ");
-    number(paper.place);
+    text(out, b"refused ")?;
+    code(out, paper.number)?;
+    text(out, b" ")?;
+    number(out, paper.place)?;
     if paper.number == 3 {
-        text(b" ");
-        number(paper.round);
+        text(out, b" ")?;
+        number(out, paper.round)?;
     }
+    Ok(())
 }
 
-fn plain(b: u8) {
-    let one = [b];
-    text(&one);
+fn plain(out: &mut impl Write, b: u8) -> io::Result<()> {
+    text(out, &[b])
 }
 
-fn hex(b: u8) {
-    text(b"\\x");
-    io::print_hex(STDOUT_FILENO, b as u64, 2);
+fn hex(out: &mut impl Write, b: u8) -> io::Result<()> {
+    write!(out, "\\x{b:02x}")
 }
 
-fn escaped(b: u8) {
+fn escaped(out: &mut impl Write, b: u8) -> io::Result<()> {
     match b {
-        b'\n' => text(b"\\n"),
-        b'\r' => text(b"\\r"),
-        b'\\' => text(b"\\\\"),
-        b'"' => hex(b),
-        b' '..=b'~' => plain(b),
-        _ => hex(b),
+        b'\n' => text(out, b"\\n"),
+        b'\r' => text(out, b"\\r"),
+        b'\\' => text(out, b"\\\\"),
+        b'"' => hex(out, b),
+        b' '..=b'~' => plain(out, b),
+        _ => hex(out, b),
     }
 }
 
 // A text between quotes, escaped as a case's texts are.
-pub fn quoted(s: &[u8]) {
-    text(b"\"");
-    let mut i = 0;
-    while i < s.len() {
-        escaped(s[i]);
-        i += 1;
+pub fn quoted(out: &mut impl Write, s: &[u8]) -> io::Result<()> {
+    text(out, b"\"")?;
+    for b in s {
+        escaped(out, *b)?;
     }
-    text(b"\"");
+    text(out, b"\"")
 }
 
-fn sign(code: u8) {
+fn sign(out: &mut impl Write, code: u8) -> io::Result<()> {
     if code == 0 {
-        text(b"u");
+        text(out, b"u")
     } else {
-        text(b"s");
+        text(out, b"s")
     }
 }
 
 // A number with a slash behind it.
-fn slashed(a: u8) {
-    code(a);
-    text(b"/");
+fn slashed(out: &mut impl Write, a: u8) -> io::Result<()> {
+    code(out, a)?;
+    text(out, b"/")
 }
 
 // The fields of main frames: intra and inter predictor, intra and inter encoding, sign.
-fn main_fields(m: Main) {
+fn main_fields(out: &mut impl Write, m: Main) -> io::Result<()> {
     let n = m.fields();
-    let mut i = 0;
-    while i < 62 {
+    for i in 0..62 {
         if i < n {
-            text(b" ");
-            slashed(m.intra_predictors[i]);
-            slashed(m.inter_predictors[i]);
-            slashed(m.intra_encodings[i]);
-            slashed(m.inter_encodings[i]);
-            sign(m.signs[i]);
+            text(out, b" ")?;
+            slashed(out, m.intra_predictors[i])?;
+            slashed(out, m.inter_predictors[i])?;
+            slashed(out, m.intra_encodings[i])?;
+            slashed(out, m.inter_encodings[i])?;
+            sign(out, m.signs[i])?;
         }
-        i += 1;
     }
+    Ok(())
 }
 
 // The fields of slow frames: predictor, encoding, sign.
-fn slow_fields(s: Slow) {
-    let mut i = 0;
-    while i < 16 {
+fn slow_fields(out: &mut impl Write, s: Slow) -> io::Result<()> {
+    for i in 0..16 {
         if i < s.n {
-            text(b" ");
-            slashed(s.predictors[i]);
-            slashed(s.encodings[i]);
-            sign(s.signs[i]);
+            text(out, b" ")?;
+            slashed(out, s.predictors[i])?;
+            slashed(out, s.encodings[i])?;
+            sign(out, s.signs[i])?;
         }
-        i += 1;
     }
+    Ok(())
 }
 
-fn header_number(given: HeaderNumber) {
+fn header_number(out: &mut impl Write, given: HeaderNumber) -> io::Result<()> {
     match given {
-        HeaderNumber::Absent => text(b" -"),
+        HeaderNumber::Absent => text(out, b" -"),
         HeaderNumber::Given(v) => {
-            text(b" ");
-            decimal(v as u64);
+            text(out, b" ")?;
+            decimal(out, v as u64)
         }
     }
 }
 
-pub fn numbers(given: Numbers) {
-    let throttle = given.min_throttle;
-    let battery = given.vbat_reference;
-    let motor = given.min_motor;
-    header_number(throttle);
-    header_number(battery);
-    header_number(motor);
+pub fn numbers(out: &mut impl Write, given: Numbers) -> io::Result<()> {
+    header_number(out, given.min_throttle)?;
+    header_number(out, given.vbat_reference)?;
+    header_number(out, given.min_motor)
 }
 
 // A number with a space before it.
-fn spaced(n: u32) {
-    text(b" ");
-    decimal(n as u64);
+fn spaced(out: &mut impl Write, n: u32) -> io::Result<()> {
+    text(out, b" ")?;
+    decimal(out, n as u64)
 }
 
-fn interval(v: FrameInterval) {
-    spaced(v.intra);
-    spaced(v.numerator);
-    spaced(v.denominator);
+fn interval(out: &mut impl Write, v: FrameInterval) -> io::Result<()> {
+    spaced(out, v.intra)?;
+    spaced(out, v.numerator)?;
+    spaced(out, v.denominator)
 }
 
 // The name of a field, or none; what is handed out for none is empty, and would show.
-pub fn name<'a>(d: Definition, kind: Kind, main: &'a [u8], slow: &'a [u8], k: usize) {
+pub fn name<'a>(
+    out: &mut impl Write,
+    d: Definition,
+    kind: Kind,
+    main: &'a [u8],
+    slow: &'a [u8],
+    k: usize,
+) -> io::Result<()> {
     let name = names::field_name(d, kind, main, slow, k);
     let at = names::name_at(d, kind, main, slow, k);
     match at {
-        Stretch::At(_, _) => quoted(name),
+        Stretch::At(_, _) => quoted(out, name),
         Stretch::Absent => {
-            text(b"none");
-            text(name);
+            text(out, b"none")?;
+            text(out, name)
         }
     }
 }
 
 // The names of fields 0 to n: the last of them is one too far.
-fn names_to<'a>(d: Definition, kind: Kind, main: &'a [u8], slow: &'a [u8], n: usize) {
-    let mut k = 0;
-    while k < n {
-        text(b" ");
-        name(d, kind, main, slow, k);
-        k += 1;
+fn names_to<'a>(
+    out: &mut impl Write,
+    d: Definition,
+    kind: Kind,
+    main: &'a [u8],
+    slow: &'a [u8],
+    n: usize,
+) -> io::Result<()> {
+    for k in 0..n {
+        text(out, b" ")?;
+        name(out, d, kind, main, slow, k)?;
     }
-    text(b" ");
-    name(d, kind, main, slow, n);
+    text(out, b" ")?;
+    name(out, d, kind, main, slow, n)
 }
 
-pub fn definition(d: Definition, log: &[u8], lists: Lists) {
-    let main_lists = lists.main;
-    let slow_lists = lists.slow;
-    let main_names = main_lists.names;
-    let slow_names = slow_lists.names;
-    let main = items::part(log, main_names);
-    let slow = items::part(log, slow_names);
-    text(b"main ");
-    number(d.main.n);
-    text(b" motor ");
-    number(d.main.motor);
-    text(b" fields");
-    main_fields(d.main);
-    text(b" slow ");
-    number(d.slow.n);
-    text(b" fields");
-    slow_fields(d.slow);
-    text(b" numbers");
-    numbers(d.numbers);
-    text(b" names");
-    names_to(d, Kind::Main, main, slow, d.main.n);
-    text(b" slow");
-    names_to(d, Kind::Slow, main, slow, d.slow.n);
-    text(b" interval");
-    let settings = d.settings;
-    interval(settings.interval);
+pub fn definition(out: &mut impl Write, d: Definition, log: &[u8], lists: Lists) -> io::Result<()> {
+    let main = items::part(log, lists.main.names);
+    let slow = items::part(log, lists.slow.names);
+    text(out, b"main ")?;
+    number(out, d.main.n)?;
+    text(out, b" motor ")?;
+    number(out, d.main.motor)?;
+    text(out, b" fields")?;
+    main_fields(out, d.main)?;
+    text(out, b" slow ")?;
+    number(out, d.slow.n)?;
+    text(out, b" fields")?;
+    slow_fields(out, d.slow)?;
+    text(out, b" numbers")?;
+    numbers(out, d.numbers)?;
+    text(out, b" names")?;
+    names_to(out, d, Kind::Main, main, slow, d.main.n)?;
+    text(out, b" slow")?;
+    names_to(out, d, Kind::Slow, main, slow, d.slow.n)?;
+    text(out, b" interval")?;
+    interval(out, d.settings.interval)
 }

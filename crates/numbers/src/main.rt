@@ -6,8 +6,9 @@ use decode::negative_14_bit::negative_14_bit;
 use decode::tagged_variable::tagged_variable;
 use decode::variable::{variable, variable_signed};
 use digits::Number;
-use libc::STDIN_FILENO;
 use reader::{Cursor, RestorePoint};
+use std::io;
+use std::io::{BufWriter, Write};
 use tagged::tagged_16::tagged_16;
 use tagged::tagged_32::tagged_32;
 
@@ -34,24 +35,16 @@ enum Named {
 
 // The reader that a case's first word names: an encoding by its number, the two others by a word.
 fn reader_of(word: &[u8]) -> Named {
-    if check::same(word, b"byte") {
-        return Named::Is(Reader::Byte);
-    }
-    if check::same(word, b"search") {
-        return Named::Is(Reader::Search);
-    }
-    if word.len() != 1 {
-        return Named::Nothing;
-    }
-    let digit = word[0];
-    match digit {
-        b'0' => Named::Is(Reader::VariableSigned),
-        b'1' => Named::Is(Reader::Variable),
-        b'3' => Named::Is(Reader::Negative14Bit),
-        b'6' => Named::Is(Reader::TaggedVariable),
-        b'7' => Named::Is(Reader::Tagged32),
-        b'8' => Named::Is(Reader::Tagged16),
-        b'9' => Named::Is(Reader::Null),
+    match word {
+        b"byte" => Named::Is(Reader::Byte),
+        b"search" => Named::Is(Reader::Search),
+        b"0" => Named::Is(Reader::VariableSigned),
+        b"1" => Named::Is(Reader::Variable),
+        b"3" => Named::Is(Reader::Negative14Bit),
+        b"6" => Named::Is(Reader::TaggedVariable),
+        b"7" => Named::Is(Reader::Tagged32),
+        b"8" => Named::Is(Reader::Tagged16),
+        b"9" => Named::Is(Reader::Null),
         _ => Named::Nothing,
     }
 }
@@ -64,86 +57,102 @@ fn takes(which: Reader, group: usize) -> bool {
     }
 }
 
-fn answer(which: Reader, group: usize, place: usize, s: &[u8]) {
+fn answer(
+    out: &mut impl Write,
+    which: Reader,
+    group: usize,
+    place: usize,
+    s: &[u8],
+) -> io::Result<()> {
     let from = Cursor { at: place };
     match which {
-        Reader::VariableSigned => show::signed(variable_signed(s, from)),
-        Reader::Variable => show::unsigned(variable(s, from)),
-        Reader::Negative14Bit => show::signed(negative_14_bit(s, from)),
-        Reader::TaggedVariable => show::group(tagged_variable(s, from, group), group),
-        Reader::Tagged32 => show::group(tagged_32(s, from), 3),
-        Reader::Tagged16 => show::group(tagged_16(s, from), 4),
-        Reader::Null => show::unsigned(decode::null(from)),
-        Reader::Byte => show::byte(reader::read_u8(s, from)),
-        Reader::Search => show::skip(reader::skip_to_frame(s, RestorePoint(place))),
+        Reader::VariableSigned => show::signed(out, variable_signed(s, from)),
+        Reader::Variable => show::unsigned(out, variable(s, from)),
+        Reader::Negative14Bit => show::signed(out, negative_14_bit(s, from)),
+        Reader::TaggedVariable => show::group(out, tagged_variable(s, from, group), group),
+        Reader::Tagged32 => show::group(out, tagged_32(s, from), 3),
+        Reader::Tagged16 => show::group(out, tagged_16(s, from), 4),
+        Reader::Null => show::unsigned(out, decode::null(from)),
+        Reader::Byte => show::byte(out, reader::read_u8(s, from)),
+        Reader::Search => show::skip(out, reader::skip_to_frame(s, RestorePoint(place))),
     }
 }
 
 // Each of the next three answers whether the line is a case, and prints nothing where it is not.
-fn with_section(line: &[u8], which: Reader, group: usize, place: usize, digits: &[u8]) -> bool {
+fn with_section(
+    out: &mut impl Write,
+    line: &[u8],
+    which: Reader,
+    group: usize,
+    place: usize,
+    digits: &[u8],
+) -> io::Result<bool> {
     let mut space = [0u8; 256];
     let section = words::section::bytes(digits, &mut space);
     if !section.is_hex {
-        return false;
+        return Ok(false);
     }
     let n = section.length;
-    show::text(line);
-    show::text(b" = ");
-    answer(which, group, place, &space[..n]);
-    true
+    show::text(out, line)?;
+    show::text(out, b" = ")?;
+    answer(out, which, group, place, &space[..n])?;
+    Ok(true)
 }
 
-fn with_reader(line: &[u8], which: Reader, rest: &[u8]) -> bool {
+fn with_reader(out: &mut impl Write, line: &[u8], which: Reader, rest: &[u8]) -> io::Result<bool> {
     let behind = words::behind(rest);
     let group = digits::decimal(words::first(rest));
     let place = digits::decimal(words::first(behind));
     let Number::Is(n) = group else {
-        return false;
+        return Ok(false);
     };
     let Number::Is(at) = place else {
-        return false;
+        return Ok(false);
     };
     if takes(which, n) {
-        with_section(line, which, n, at, words::behind(behind))
+        with_section(out, line, which, n, at, words::behind(behind))
     } else {
-        false
+        Ok(false)
     }
 }
 
-fn case(line: &[u8]) -> bool {
+fn case(out: &mut impl Write, line: &[u8]) -> io::Result<bool> {
     let name = reader_of(words::first(line));
     match name {
-        Named::Is(which) => with_reader(line, which, words::behind(line)),
-        Named::Nothing => false,
+        Named::Is(which) => with_reader(out, line, which, words::behind(line)),
+        Named::Nothing => Ok(false),
     }
 }
 
 // A line that begins with # is a heading of the table, and is copied.
-fn line(text: &[u8]) {
+fn line(out: &mut impl Write, text: &[u8]) -> io::Result<()> {
     if words::is_heading(text) {
-        show::text(text);
-    } else if !case(text) {
-        show::text(b"? ");
-        show::text(text);
+        show::text(out, text)?;
+    } else if !case(out, text)? {
+        show::text(out, b"? ")?;
+        show::text(out, text)?;
     }
-    show::text(b"\n");
+    show::text(out, b"\n")
 }
 
-fn lines(text: &[u8]) {
+fn lines(out: &mut impl Write, text: &[u8]) -> io::Result<()> {
     let mut at = 0;
     while at < text.len() {
         let rest = &text[at..];
         let n = digits::until(rest, b'\n');
-        line(&rest[..n]);
+        line(out, &rest[..n])?;
         at += n;
         if at < text.len() {
             at += 1;
         }
     }
+    Ok(())
 }
 
-fn main() {
-    let mut text = io::large_buffer();
-    let n = io::read_full(STDIN_FILENO, &mut text);
-    lines(&text[..n]);
+fn main(rt: HostRuntime) -> io::Result<()> {
+    let mut text = terminal::large_buffer();
+    let n = terminal::read_full(&mut rt.stdin(), &mut text)?;
+    let mut out = BufWriter::new(rt.alloc(), rt.stdout())?;
+    lines(&mut out, &text[..n])?;
+    out.flush()
 }

@@ -1,95 +1,93 @@
-// What a reader answered, on standard output: the values and the place behind them, or why there are none.
+// What a reader answered: the values and the place behind them, or why there are none.
 // Patterns are printed as signed numbers, but for the encodings that are unsigned.
-use libc::STDOUT_FILENO;
 use reader::{Byte, Cursor, Group, Read, Skip, Step};
+use std::io;
+use std::io::Write;
 
-pub fn text(s: &[u8]) {
-    io::write_all(STDOUT_FILENO, s);
+pub fn text(out: &mut impl Write, s: &[u8]) -> io::Result<()> {
+    out.write_all(s)
 }
 
-fn decimal(n: u64) {
-    io::print_decimal(STDOUT_FILENO, n);
+fn decimal(out: &mut impl Write, n: u64) -> io::Result<()> {
+    write!(out, "{n}")
 }
 
 // A 32-bit pattern as a signed number.
-fn signed_decimal(v: u32) {
+fn signed_decimal(out: &mut impl Write, v: u32) -> io::Result<()> {
     if v < 2147483648 {
-        decimal(v as u64);
+        decimal(out, v as u64)
     } else {
-        text(b"-");
-        decimal(4294967295 - v as u64 + 1);
+        text(out, b"-")?;
+        decimal(out, 4294967295 - v as u64 + 1)
     }
 }
 
-fn next(behind: Cursor) {
-    text(b" next ");
-    decimal(behind.at as u64);
+fn next(out: &mut impl Write, behind: Cursor) -> io::Result<()> {
+    text(out, b" next ")?;
+    decimal(out, behind.at as u64)
 }
 
-pub fn unsigned(r: Read) {
+pub fn unsigned(out: &mut impl Write, r: Read) -> io::Result<()> {
     match r {
         Read::Num(v, behind) => {
-            decimal(v as u64);
-            next(behind);
+            decimal(out, v as u64)?;
+            next(out, behind)
         }
-        Read::Cut => text(b"cut"),
-        Read::Corrupt => text(b"corrupt"),
+        Read::Cut => text(out, b"cut"),
+        Read::Corrupt => text(out, b"corrupt"),
     }
 }
 
-pub fn signed(r: Read) {
+pub fn signed(out: &mut impl Write, r: Read) -> io::Result<()> {
     match r {
         Read::Num(v, behind) => {
-            signed_decimal(v);
-            next(behind);
+            signed_decimal(out, v)?;
+            next(out, behind)
         }
-        Read::Cut => text(b"cut"),
-        Read::Corrupt => text(b"corrupt"),
+        Read::Cut => text(out, b"cut"),
+        Read::Corrupt => text(out, b"corrupt"),
     }
 }
 
 // The first n values, of which a group has eight at the most.
-fn values(v: [u32; 8], n: usize) {
-    let mut i = 0;
-    while i < 8 {
-        if i < n {
-            if 0 < i {
-                text(b" ");
-            }
-            signed_decimal(v[i]);
+fn values(out: &mut impl Write, v: [u32; 8], n: usize) -> io::Result<()> {
+    for (i, v) in v.iter().take(n).enumerate() {
+        if 0 < i {
+            text(out, b" ")?;
         }
-        i += 1;
+        signed_decimal(out, *v)?;
     }
+    Ok(())
 }
 
-pub fn group(g: Group, n: usize) {
+pub fn group(out: &mut impl Write, g: Group, n: usize) -> io::Result<()> {
     let step = g.step;
     let v = g.values;
     match step {
         Step::Next(behind) => {
-            values(v, n);
-            next(behind);
+            values(out, v, n)?;
+            next(out, behind)
         }
-        Step::Cut => text(b"cut"),
-        Step::Corrupt => text(b"corrupt"),
+        Step::Cut => text(out, b"cut"),
+        Step::Corrupt => text(out, b"corrupt"),
     }
 }
 
-pub fn byte(b: Byte) {
+pub fn byte(out: &mut impl Write, b: Byte) -> io::Result<()> {
     match b {
         Byte::Here(v, behind) => {
-            decimal(v as u64);
-            next(behind);
+            decimal(out, v as u64)?;
+            next(out, behind)
         }
-        Byte::End => text(b"end"),
+        Byte::End => text(out, b"end"),
     }
 }
 
-pub fn skip(k: Skip) {
+pub fn skip(out: &mut impl Write, k: Skip) -> io::Result<()> {
     if k.barren {
-        text(b"nothing");
+        text(out, b"nothing")
     } else {
-        text(b"by ");
-        decimal(k.by as u64);
+        text(out, b"by ")?;
+        decimal(out, k.by as u64)
     }
 }

@@ -2,9 +2,9 @@
 // Places are the caller's to have: each function asks that its bytes lie within the buffer.
 #![tactic(auto)]
 
-ghost use Rattle.std.specs.Prelude.{◌≡◌, ◌+◌, ◌*◌, ◌/◌, ◌%◌, ◌≤◌, ◌<◌, length};
-ghost use Rattle.octets.specs.Owes.{Put32Owes, Put64Owes, PutValuesOwes, PutLongsOwes, PutBytesOwes};
-ghost use Rattle.octets.specs.Owes.{Take32Owes, Take64Owes, TakeValuesOwes, TakeBytesOwes};
+ghost use Rattle.std.specs.Prelude.{◌≡◌, ◌+◌, ◌*◌, ◌/◌, ◌%◌, ◌≤◌, ◌<◌, length, take, drop};
+ghost use Rattle.std.proofs.lemmas.List.Edits.{sets};
+ghost use Rattle.octets.specs.Bytes.{le32, le64, words, longs, num32, num64, nums};
 
 fn low(x: u32) -> u8
     ensures { result ≡ x % 256 }
@@ -20,7 +20,7 @@ fn wide(x: u8) -> u32
 
 pub fn put32(buf: &mut [u8], at: usize, v: u32)
     requires { at + 4 ≤ length buf.old }
-    ensures { Put32Owes buf.old at v buf.new }
+    ensures { buf.new ≡ sets buf.old at (le32 v) }
 {
     buf[at] = low(v);
     buf[at + 1] = low(v / 256);
@@ -30,7 +30,7 @@ pub fn put32(buf: &mut [u8], at: usize, v: u32)
 
 pub fn take32(buf: &[u8], at: usize) -> u32
     requires { at + 4 ≤ length buf.now }
-    ensures { Take32Owes buf.now at result }
+    ensures { result ≡ num32 (drop at buf.now) }
 {
     wide(buf[at])
         + wide(buf[at + 1]) * 256
@@ -58,7 +58,7 @@ fn wide64(x: u32) -> u64
 
 pub fn put64(buf: &mut [u8], at: usize, v: u64)
     requires { at + 8 ≤ length buf.old }
-    ensures { Put64Owes buf.old at v buf.new }
+    ensures { buf.new ≡ sets buf.old at (le64 v) }
 {
     put32(buf, at, low32(v));
     put32(buf, at + 4, high32(v));
@@ -66,7 +66,7 @@ pub fn put64(buf: &mut [u8], at: usize, v: u64)
 
 pub fn take64(buf: &[u8], at: usize) -> u64
     requires { at + 8 ≤ length buf.now }
-    ensures { Take64Owes buf.now at result }
+    ensures { result ≡ num64 (drop at buf.now) }
 {
     wide64(take32(buf, at)) + wide64(take32(buf, at + 4)) * 4294967296
 }
@@ -74,7 +74,7 @@ pub fn take64(buf: &[u8], at: usize) -> u64
 // Values, four bytes each.
 pub fn put_values(buf: &mut [u8], at: usize, values: &[u32])
     requires { at + 4 * length values.now ≤ length buf.old }
-    ensures { PutValuesOwes buf.old at values.now buf.new }
+    ensures { buf.new ≡ sets buf.old at (words values.now) }
 {
     let mut i: usize = 0;
     let mut j = at;
@@ -88,7 +88,7 @@ pub fn put_values(buf: &mut [u8], at: usize, values: &[u32])
 // Numbers, eight bytes each.
 pub fn put_longs(buf: &mut [u8], at: usize, numbers: &[u64])
     requires { at + 8 * length numbers.now ≤ length buf.old }
-    ensures { PutLongsOwes buf.old at numbers.now buf.new }
+    ensures { buf.new ≡ sets buf.old at (longs numbers.now) }
 {
     let mut i: usize = 0;
     let mut j = at;
@@ -102,7 +102,7 @@ pub fn put_longs(buf: &mut [u8], at: usize, numbers: &[u64])
 // As many values as the lent array has places.
 pub fn take_values(buf: &[u8], at: usize, values: &mut [u32])
     requires { at + 4 * length values.old ≤ length buf.now }
-    ensures { TakeValuesOwes buf.now at values.old values.new }
+    ensures { values.new ≡ nums (length values.old) (drop at buf.now) }
 {
     let mut i: usize = 0;
     let mut j = at;
@@ -115,7 +115,7 @@ pub fn take_values(buf: &[u8], at: usize, values: &mut [u32])
 
 pub fn put_bytes(buf: &mut [u8], at: usize, bytes: &[u8])
     requires { at + length bytes.now ≤ length buf.old }
-    ensures { PutBytesOwes buf.old at bytes.now buf.new }
+    ensures { buf.new ≡ sets buf.old at bytes.now }
 {
     let mut i: usize = 0;
     while i < bytes.len() {
@@ -127,7 +127,7 @@ pub fn put_bytes(buf: &mut [u8], at: usize, bytes: &[u8])
 // As many bytes as the lent array has places.
 pub fn take_bytes(buf: &[u8], at: usize, bytes: &mut [u8])
     requires { at + length bytes.old ≤ length buf.now }
-    ensures { TakeBytesOwes buf.now at bytes.old bytes.new }
+    ensures { bytes.new ≡ take (length bytes.old) (drop at buf.now) }
 {
     let mut i: usize = 0;
     while i < bytes.len() {

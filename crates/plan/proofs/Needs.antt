@@ -2,19 +2,18 @@
 use Prim.Native.Nat.{ℕ, zero, suc, ◌+◌, ◌<◌, ◌≤◌}
 use mathlib.Core.Bool.{Bool, true, false, cond, not, ◌&&◌, false≢true, and-eq-true_iff}
 use mathlib.Core.List.{List, [], ◌∷◌}
-use mathlib.Core.Option.{none, some}
-use mathlib.Core.Path.{◌≡◌, refl, sym, ap, ◌∙◌}
+use mathlib.Core.Path.{◌≡◌, refl, sym, ◌∙◌}
 use native.Mathlib.Nat.{add-zero, zero-add}
 use native.Mathlib.Numerals.{add-one}
 use native.Mathlib.Omega.{arith}
 use lib.ListN.{length, drop, get_or, drop_of_length-le}
 use lib.Seq.{drop-cons}
 use borrow.Author.Tests.{not-true, not-false}
-use Rattle.plan.specs.declared.Main.{Main}
+use Rattle.plan.specs.declared.Need.{Need}
+use Rattle.plan.specs.declared.Need.TheVariants.{Met, Unmet}
 use Rattle.plan.specs.declared.Numbers.{Numbers}
-use Rattle.plan.specs.declared.Slow.{Slow}
 use Rattle.plan.specs.Known.{among, predictors, encodings}
-use Rattle.plan.specs.Sound.{met, Finding, unmet_at, unmet_from, behind_time, unmet_main, unmet_slow, known}
+use Rattle.plan.specs.Sound.{met, unmet_from, known}
 
 -- from field i on: the first field of which an item fails its test decides
 unfoldable pub judged : {R : Type 0} → (a b : ℕ → ℕ → Bool) → R → (ℕ → R) → ℕ → (ps qs : List ℕ) → R
@@ -53,7 +52,7 @@ known_is i (p ∷ ps) [] = refl
 known_is i (p ∷ ps) (e ∷ es) = rw (known_is (suc i) ps es) (and_cond (among predictors p) (among encodings e) _)
 
 module _ (numbers : Numbers) (motor : ℕ) where
-  pub unmet_is : (i : ℕ) (ps qs : List ℕ) → unmet_from numbers motor i ps qs ≡ judged (met numbers motor) (met numbers motor) none unmet_at i ps qs
+  pub unmet_is : (i : ℕ) (ps qs : List ℕ) → unmet_from numbers motor i ps qs ≡ judged (met numbers motor) (met numbers motor) Met Unmet i ps qs
   unfolding unmet_from judged
   unmet_is i [] qs = refl
   unmet_is i (p ∷ ps) [] = refl
@@ -76,42 +75,23 @@ known_all (p ∷ ps) (e ∷ es) each =
     rw (first.0, first.1) (known_all ps es (λ i h k. each (suc i) (omega arith) (omega arith)))
 
 -- where nothing is unmet, every predictor has what it needs
-pub unmet_at_law : (numbers : Numbers) (motor : ℕ) (ps qs : List ℕ) → unmet_from numbers motor 0 ps qs ≡ none
+pub unmet_at_law : (numbers : Numbers) (motor : ℕ) (ps qs : List ℕ) → unmet_from numbers motor 0 ps qs ≡ Met
     → (i : ℕ) → i < length ps → i < length qs → (met numbers motor i (get_or ps i 0) ≡ true) × (met numbers motor i (get_or qs i 0) ≡ true)
 unmet_at_law numbers motor ps qs e i h k =
     rw (zero-add i) at
-    (judged_at (met numbers motor) (met numbers motor) none unmet_at (λ j f. let z : ◌≡◌ {A = ℕ} 0 1 = cc in omega arith) 0 ps qs
+    (judged_at (met numbers motor) (met numbers motor) Met Unmet (λ j f. let z : ◌≡◌ {A = ℕ} 0 1 = cc in omega arith) 0 ps qs
     (sym (unmet_is numbers motor 0 ps qs) ∙ e) i h k)
 
--- what is found is refusal 8, and its place one of the fields
-pub unmet_below : (numbers : Numbers) (motor i : ℕ) (ps qs : List ℕ) {x : ℕ × ℕ}
-    → unmet_from numbers motor i ps qs ≡ some x → (x.0 ≡ 8) × (x.1 < i + length ps)
+-- a field that lacks something is one of the fields
+pub unmet_below : (numbers : Numbers) (motor i : ℕ) (ps qs : List ℕ) {j : ℕ} → unmet_from numbers motor i ps qs ≡ Unmet j → j < i + length ps
 unfolding unmet_from
 unmet_below numbers motor i [] qs e = let z : ◌≡◌ {A = ℕ} 0 1 = cc in absurd (omega arith)
 unmet_below numbers motor i (p ∷ ps) [] e = let z : ◌≡◌ {A = ℕ} 0 1 = cc in absurd (omega arith)
-unmet_below numbers motor i (p ∷ ps) (q ∷ qs) {x} e = either (met numbers motor i p && met numbers motor i q) (unmet_below numbers motor (suc i) ps qs) e
+unmet_below numbers motor i (p ∷ ps) (q ∷ qs) {j} e = either (met numbers motor i p && met numbers motor i q) (unmet_below numbers motor (suc i) ps qs) e
   where
-    either : {r : Finding} (t : Bool) → (r ≡ some x → (x.0 ≡ 8) × (x.1 < suc i + length ps)) → cond t r (unmet_at i) ≡ some x
-        → (x.0 ≡ 8) × (x.1 < i + suc (length ps))
+    either : {r : Need} (t : Bool) → (r ≡ Unmet j → j < suc i + length ps) → cond t r (Unmet i) ≡ Unmet j → j < i + suc (length ps)
     either true f g = omega (arith, f g)
-    either false f g = let z : (8, i) ≡ x = cc in (ap (λ y. y.0) (sym z), omega (arith, ap (λ y. y.1) z))
-
--- of a whole definition too
-pub record IsEight (x : Finding) : Type 0 where
-  pub number : {y : ℕ × ℕ} → x ≡ some y → y.0 ≡ 8
-
-eight_behind : (x : Finding) → IsEight x → IsEight (behind_time x)
-unfolding behind_time
-eight_behind none h = record { number = λ e. let z : ◌≡◌ {A = ℕ} 0 1 = cc in absurd (omega arith) }
-eight_behind (some x) h = record { number = λ {y} e. let z : (x.0, x.1 + 2) ≡ y = cc in ap (λ y. y.0) (sym z) ∙ h.number refl }
-
-pub main_eight : (m : Main) (numbers : Numbers) → IsEight (unmet_main m numbers)
-unfolding unmet_main
-main_eight m numbers = eight_behind _ (record { number = λ e. (unmet_below numbers m.motor 0 _ _ e).0 })
-
-pub slow_eight : (s : Slow) (numbers : Numbers) → IsEight (unmet_slow s numbers)
-unfolding unmet_slow
-slow_eight s numbers = record { number = λ e. (unmet_below numbers s.n 0 _ _ e).0 }
+    either false f g = let z : i ≡ j = cc in omega arith
 
 -- ## As a loop goes about it
 

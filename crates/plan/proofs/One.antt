@@ -12,7 +12,6 @@ use Rattle.plan.specs.declared.Numbers.{Numbers}
 use Rattle.plan.specs.declared.Settings.{Settings}
 use Rattle.plan.specs.declared.Slow.{Slow}
 use Rattle.plan.specs.Owes.{CodeOwes, OfOwes, FieldsOwes, IsIntervalOwes, PlainOwes, NothingOwes, UnmetMainOwes, UnmetSlowOwes, AreSoundOwes, IsSoundOwes}
-use Rattle.plan.proofs.Papers.{found_injective}
 
 -- a promise is one equation to a definition
 pub one_answer : {A : Type 0} {x r t : A} → r ≡ x → t ≡ x → r ≡ t
@@ -37,10 +36,10 @@ pub nothing_one : {r t : Definition} → NothingOwes r → NothingOwes t → r �
 nothing_one = one_answer
 
 pub unmet_main_one : (m : Main) (numbers : Numbers) {r t : Need} → UnmetMainOwes m numbers r → UnmetMainOwes m numbers t → r ≡ t
-unmet_main_one m numbers {r} {t} p q = found_injective r t (one_answer p q)
+unmet_main_one m numbers = one_answer
 
 pub unmet_slow_one : (s : Slow) (numbers : Numbers) {r t : Need} → UnmetSlowOwes s numbers r → UnmetSlowOwes s numbers t → r ≡ t
-unmet_slow_one s numbers {r} {t} p q = found_injective r t (one_answer p q)
+unmet_slow_one s numbers = one_answer
 
 pub are_sound_one : (n : ℕ) (predictors encodings : List ℕ) (motor : ℕ) (numbers : Numbers) {r t : Bool}
     → AreSoundOwes n predictors encodings motor numbers r → AreSoundOwes n predictors encodings motor numbers t → r ≡ t

@@ -2,18 +2,19 @@
 use Prim.Native.Nat.{ℕ, ◌≤◌, ◌<◌}
 use mathlib.Core.Bool.{Bool, true, false, not, ◌&&◌, false≢true, and-eq-true_iff}
 use mathlib.Core.List.{List}
-use mathlib.Core.Option.{none, some}
-use mathlib.Core.Path.{◌≡◌, refl, sym, ap, ap₂, ◌∙◌}
+use mathlib.Core.Path.{◌≡◌, refl, sym, ap, ◌∙◌}
 use lib.Dec.{leb, eqb}
 use lib.ListN.{take}
 use borrow.Author.Tests.{le-leb, lt-leb, leb-true, eqb-true, eq-eqb, ne_eqb, not-true, not-false}
 use Rattle.plan.specs.declared.Definition.{Definition}
 use Rattle.plan.specs.declared.FrameInterval.{FrameInterval}
 use Rattle.plan.specs.declared.Main.{Main}
+use Rattle.plan.specs.declared.Need.{Need}
+use Rattle.plan.specs.declared.Need.TheVariants.{Met, Unmet}
 use Rattle.plan.specs.declared.Numbers.{Numbers}
 use Rattle.plan.specs.declared.Slow.{Slow}
 use Rattle.plan.specs.Plan.{fields, nothing}
-use Rattle.plan.specs.Sound.{known, Finding, unmet_from, behind_time, unmet_main, unmet_slow, is_met, sound_fields, sound_main, sound_slow, is_interval, sound}
+use Rattle.plan.specs.Sound.{known, unmet_from, unmet_main, unmet_slow, is_met, sound_fields, sound_main, sound_slow, is_interval, sound}
 
 -- whether the codes of the first k fields are known
 abbrev pub intra_known : Main → ℕ → Bool
@@ -25,9 +26,9 @@ inter_known m k = known (take k m.inter_predictors) (take k m.inter_encodings)
 abbrev pub slow_known : Slow → ℕ → Bool
 slow_known s k = known (take k s.predictors) (take k s.encodings)
 
-all_met : (x : Finding) → is_met x ≡ true → x ≡ none
-all_met none e = refl
-all_met (some x) e = absurd (false≢true e)
+all_met : (need : Need) → is_met need ≡ true → need ≡ Met
+all_met Met e = refl
+all_met (Unmet i) e = absurd (false≢true e)
 
 all_three : (a b c : Bool) → (a && (b && c)) ≡ true → (a ≡ true) × (b ≡ true) × (c ≡ true)
 all_three true true c e = (refl, refl, e)
@@ -49,7 +50,7 @@ module _ (rooms : ℕ) (numbers : Numbers) (motor n : ℕ) (ps es : List ℕ) wh
     pub fields_codes_fail : not b ≡ true → false ≡ sound_fields rooms numbers motor n ps es
     fields_codes_fail p = sym (fields_sound_is (le-leb n rooms few) (sym codes ∙ not-true b p) refl)
 
-    pub fields_needs : {d : Bool} {r : Finding} → d ≡ is_met r → r ≡ unmet_from numbers motor 0 ps ps → not b ≡ false
+    pub fields_needs : {d : Bool} {r : Need} → d ≡ is_met r → r ≡ unmet_from numbers motor 0 ps ps → not b ≡ false
         → d ≡ sound_fields rooms numbers motor n ps es
     fields_needs f g p = f ∙ sym (fields_sound_is (le-leb n rooms few) (sym codes ∙ not-false b p) (sym (ap is_met g)))
 
@@ -64,7 +65,7 @@ module _ (rooms : ℕ) (numbers : Numbers) (motor n : ℕ) (ps es : List ℕ) wh
     pub fields_known : known ps es ≡ true
     fields_known = fields_parts.1
 
-    pub fields_met : unmet_from numbers motor 0 ps ps ≡ none
+    pub fields_met : unmet_from numbers motor 0 ps ps ≡ Met
     fields_met = all_met (unmet_from numbers motor 0 ps ps) fields_parts.2
 
 -- ## Main frames
@@ -76,7 +77,7 @@ module _ (m : Main) (numbers : Numbers) where
   unfolding sound_main
   main_sound_is e p q r s = rw (← e, p, q, r, s)
 
-  pub main_sound_made : fields m ≤ 62 → intra_known m (fields m) ≡ true → inter_known m (fields m) ≡ true → unmet_main m numbers ≡ none
+  pub main_sound_made : fields m ≤ 62 → intra_known m (fields m) ≡ true → inter_known m (fields m) ≡ true → unmet_main m numbers ≡ Met
       → sound_main m numbers ≡ true
   main_sound_made h p q r = main_sound_is refl (le-leb (fields m) 62 h) p q (ap is_met r)
 
@@ -93,7 +94,7 @@ module _ (m : Main) (numbers : Numbers) where
         pub main_inter_fails : not c ≡ true → false ≡ sound_main m numbers
         main_inter_fails q = sym (main_sound_is count (le-leb k 62 few) (sym intra ∙ not-false b p) (sym inter ∙ not-true c q) refl)
 
-        pub main_needs : {d : Bool} {r : Finding} → d ≡ is_met r → r ≡ unmet_main m numbers → not c ≡ false → d ≡ sound_main m numbers
+        pub main_needs : {d : Bool} {r : Need} → d ≡ is_met r → r ≡ unmet_main m numbers → not c ≡ false → d ≡ sound_main m numbers
         main_needs f g q = f ∙ sym (main_sound_is count (le-leb k 62 few) (sym intra ∙ not-false b p) (sym inter ∙ not-false c q) (sym (ap is_met g)))
 
   -- its parts
@@ -114,13 +115,13 @@ module _ (m : Main) (numbers : Numbers) where
     pub main_inter : inter_known m (fields m) ≡ true
     main_inter = main_last.0
 
-    pub main_met : unmet_main m numbers ≡ none
+    pub main_met : unmet_main m numbers ≡ Met
     main_met = all_met (unmet_main m numbers) main_last.1
 
 -- ## Slow frames
 
 module _ (s : Slow) (numbers : Numbers) where
-  pub slow_sound_made : s.n ≤ 16 → slow_known s s.n ≡ true → unmet_slow s numbers ≡ none → sound_slow s numbers ≡ true
+  pub slow_sound_made : s.n ≤ 16 → slow_known s s.n ≡ true → unmet_slow s numbers ≡ Met → sound_slow s numbers ≡ true
   unfolding sound_slow unmet_slow
   slow_sound_made h p q = fields_sound_is 16 numbers s.n s.n _ _ (le-leb s.n 16 h) p (ap is_met q)
 
@@ -134,7 +135,7 @@ module _ (s : Slow) (numbers : Numbers) where
     unfolding sound_slow
     slow_codes_fail p = fields_codes_fail 16 numbers s.n s.n _ _ codes few p
 
-    pub slow_needs : {d : Bool} {r : Finding} → d ≡ is_met r → r ≡ unmet_slow s numbers → not b ≡ false → d ≡ sound_slow s numbers
+    pub slow_needs : {d : Bool} {r : Need} → d ≡ is_met r → r ≡ unmet_slow s numbers → not b ≡ false → d ≡ sound_slow s numbers
     unfolding sound_slow unmet_slow
     slow_needs f g p = fields_needs 16 numbers s.n s.n _ _ codes few f g p
 
@@ -148,7 +149,7 @@ module _ (s : Slow) (numbers : Numbers) where
     unfolding sound_slow
     slow_known_law = fields_known 16 numbers s.n s.n _ _ h
 
-    pub slow_met : unmet_slow s numbers ≡ none
+    pub slow_met : unmet_slow s numbers ≡ Met
     unfolding sound_slow unmet_slow
     slow_met = fields_met 16 numbers s.n s.n _ _ h
 
@@ -213,5 +214,5 @@ module _ (d : Definition) where
 
 -- a definition with no fields is sound
 pub nothing_sound : sound nothing ≡ true
-unfolding nothing sound sound_main sound_slow behind_time unmet_main unmet_slow unmet_from known is_interval
+unfolding nothing sound sound_main sound_slow unmet_main unmet_slow unmet_from known is_interval
 nothing_sound = refl

@@ -9,7 +9,7 @@ use Rattle.plan.specs.declared.Numbers.{Numbers}
 use Rattle.plan.specs.declared.Settings.{Settings}
 use Rattle.plan.specs.declared.Slow.{Slow}
 use Rattle.plan.specs.Plan.{number_code, number_of, fields, plain, nothing}
-use Rattle.plan.specs.Sound.{found, unmet_main, unmet_slow, sound_fields, is_interval, sound}
+use Rattle.plan.specs.Sound.{unmet_main, unmet_slow, sound_fields, is_interval, sound}
 
 abbrev pub CodeOwes : HeaderNumber → ℕ → Type 0
 CodeOwes x r = r ≡ number_code x
@@ -30,10 +30,10 @@ abbrev pub NothingOwes : Definition → Type 0
 NothingOwes r = r ≡ nothing
 
 abbrev pub UnmetMainOwes : Main → Numbers → Need → Type 0
-UnmetMainOwes m numbers r = found r ≡ unmet_main m numbers
+UnmetMainOwes m numbers r = r ≡ unmet_main m numbers
 
 abbrev pub UnmetSlowOwes : Slow → Numbers → Need → Type 0
-UnmetSlowOwes s numbers r = found r ≡ unmet_slow s numbers
+UnmetSlowOwes s numbers r = r ≡ unmet_slow s numbers
 
 -- the first n of 62 predictors and encodings
 abbrev pub AreSoundOwes : (n : ℕ) → (predictors encodings : List ℕ) → (motor : ℕ) → Numbers → Bool → Type 0

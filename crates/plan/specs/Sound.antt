@@ -1,6 +1,5 @@
 -- What a definition's fields must be (document 01, checks 3, 8 and 9): known predictors and encodings, what predictors need, and an interval of 1/1.
 use Rattle.std.specs.Prelude.{ℕ, suc, ◌+◌, Bool, true, false, cond, ◌&&◌, List, [], ◌∷◌, eqb, ltb, leb, take}
-use Rattle.std.proofs.Math.Option.{Option, none, some}
 use Rattle.plan.specs.declared.Definition.{Definition}
 use Rattle.plan.specs.declared.FrameInterval.{FrameInterval}
 use Rattle.plan.specs.declared.HeaderNumber.{HeaderNumber}
@@ -25,42 +24,30 @@ met numbers motor i p =
     (cond (eqb p 11) (is_given numbers.min_motor)
     (cond (eqb p 5) (ltb motor i) true)))
 
--- what check 8 finds: nothing, or its number and its place
-abbrev pub Finding : Type 0
-Finding = Option (ℕ × ℕ)
-
--- its place is the field at fault
-abbrev pub unmet_at : (field : ℕ) → Finding
-unmet_at field = some (8, field)
-
-unfoldable pub found : Need → Finding
-found Met = none
-found (Unmet field) = unmet_at field
-
 -- the first field, from field i on, with a predictor that lacks something: by field, intra first; the two lists have one length
-unfoldable pub unmet_from : Numbers → (motor i : ℕ) → (intra inter : List ℕ) → Finding
-unmet_from numbers motor i [] qs = none
-unmet_from numbers motor i (p ∷ ps) [] = none
+unfoldable pub unmet_from : Numbers → (motor i : ℕ) → (intra inter : List ℕ) → Need
+unmet_from numbers motor i [] qs = Met
+unmet_from numbers motor i (p ∷ ps) [] = Met
 unmet_from numbers motor i (p ∷ ps) (q ∷ qs) =
-    cond (met numbers motor i p && met numbers motor i q) (unmet_from numbers motor (suc i) ps qs) (unmet_at i)
+    cond (met numbers motor i p && met numbers motor i q) (unmet_from numbers motor (suc i) ps qs) (Unmet i)
 
 -- fields are numbered from the list's first item
-unfoldable pub behind_time : Finding → Finding
-behind_time none = none
-behind_time (some x) = some (x.0, x.1 + 2)
+abbrev pub behind_time : Need → Need
+behind_time Met = Met
+behind_time (Unmet i) = Unmet (i + 2)
 
-unfoldable pub unmet_main : Main → Numbers → Finding
+unfoldable pub unmet_main : Main → Numbers → Need
 unmet_main m numbers =
     behind_time
     (unmet_from numbers m.motor 0 (take (fields m) m.intra_predictors) (take (fields m) m.inter_predictors))
 
 -- slow frames have no `motor[0]`: it is put at n, behind every field, so that 5 is never met
-unfoldable pub unmet_slow : Slow → Numbers → Finding
+unfoldable pub unmet_slow : Slow → Numbers → Need
 unmet_slow s numbers = unmet_from numbers s.n 0 (take s.n s.predictors) (take s.n s.predictors)
 
-abbrev pub is_met : Finding → Bool
-is_met none = true
-is_met (some x) = false
+abbrev pub is_met : Need → Bool
+is_met Met = true
+is_met (Unmet i) = false
 
 -- every field's predictor and encoding is one that there is; the two lists have one length
 unfoldable pub known : (ps es : List ℕ) → Bool

@@ -6,7 +6,7 @@ ghost use Rattle.std.specs.Prelude.{◌≡◌, min, length};
 ghost use Rattle.plan.specs.Known.{among, predictors, encodings};
 ghost use Rattle.plan.specs.Owes.{CodeOwes, OfOwes, FieldsOwes, IsIntervalOwes, PlainOwes, NothingOwes};
 ghost use Rattle.plan.specs.Owes.{UnmetMainOwes, UnmetSlowOwes, AreSoundOwes, IsSoundOwes};
-ghost use Rattle.plan.specs.Sound.{is_given, met, found, unmet_from, is_met, known, sound_main, sound_slow};
+ghost use Rattle.plan.specs.Sound.{is_given, met, unmet_from, is_met, known, sound_main, sound_slow};
 
 // The main frames: the items of each list (0 where refused, 2 with no fields), and the fields behind loopIteration and time.
 #[derive(Clone, Copy)]
@@ -103,7 +103,7 @@ fn is_met(numbers: Numbers, motor: usize, i: usize, p: u8) -> bool
 // The needs of two lists of predictors, field by field.
 fn unmet(numbers: Numbers, motor: usize, intra: &[u8], inter: &[u8]) -> Need
     requires { length intra.now ≡ length inter.now }
-    ensures { found result ≡ unmet_from numbers motor 0 intra.now inter.now }
+    ensures { result ≡ unmet_from numbers motor 0 intra.now inter.now }
 {
     let mut i = 0;
     while i < intra.len() {
@@ -164,7 +164,7 @@ fn are_known(predictors: &[u8], encodings: &[u8]) -> bool
 }
 
 fn is_all_met(need: Need) -> bool
-    ensures { result ≡ is_met (found need) }
+    ensures { result ≡ is_met need }
 {
     match need {
         Need::Met => true,

@@ -105,7 +105,8 @@ module _ (k t : ℕ) (s values : List ℕ) (i : ℕ) (p : Cursor) (rs : List Run
   number_corrupt corrupt e f = refl
 
   group_next : (n : ℕ) (g : Got (List ℕ)) {q : Cursor} → (group_at p g).step ≡ Next q → Every (Enough n) g
-      → laid_at k t values i p (onward (Behind rs n) (rest p s) g) ≡ laid_at k t (sets values i (take n (group_at p g).values)) (i + n) q (of_runs rs (rest q s))
+      → laid_at k t values i p (onward (Behind rs n) (rest p s) g) ≡ laid_at k t (sets values i (take n (group_at p g).values)) (i + n) q
+      (of_runs rs (rest q s))
   unfolding group_at
   group_next n (got vs u) {q} e h =
       let place : on p u ≡ q = cc in

@@ -11,12 +11,17 @@ use lib.ListN.{length, take, get_or, set, replicate, length-map}
 use lib.Seq.{sets, sets-eq, take_all, take_at}
 use borrow.Author.Tests.{leb-true}
 use Rattle.frame.specs.declared.fields.Context.{Context}
+use Rattle.frame.specs.declared.fields.FieldReading.{FieldReading}
 use Rattle.frame.specs.Lists.{by_lists}
 use Rattle.reader.specs.declared.Cursor.{Cursor}
 use Rattle.reader.specs.Place.{padded}
 use Rattle.records.specs.declared.FieldDef.{FieldDef}
+use Rattle.records.specs.declared.Gathered.{Gathered}
 use Rattle.records.specs.Gathered.{gathered, none_yet, with, by_gathered}
 use Rattle.records.specs.Records.{by_records}
+
+abbrev nowhere : FieldDef
+nowhere = record { predictor = 0; encoding = 0; signed = false }
 
 pub starts : (fields : List FieldDef) → none_yet ≡ gathered (take 0 fields)
 unfolding none_yet
@@ -43,6 +48,11 @@ pub grows : (fields : List FieldDef) (i : ℕ) (d : FieldDef) → i < length fie
 unfolding gathered with
 grows fields i d h = λ j. record { encodings = lays_first (λ f. f.encoding) fields i d h j; predictors = lays_first (λ f. f.predictor) fields i d h j }
 
+-- one turn of the entry's loop; what a place past the last record would hold is never asked for
+pub grown : (fields : List FieldDef) (i : ℕ) {g h : Gathered} → h ≡ with g i (get_or fields i nowhere) → g ≡ gathered (take i fields)
+    → i < length fields → h ≡ gathered (take (i + 1) fields)
+grown fields i e f h = e ∙ ap (λ x. with x i (get_or fields i nowhere)) f ∙ grows fields i nowhere h
+
 -- as many as there are records, of those that are laid
 all_laid : (f : FieldDef → ℕ) (fields : List FieldDef) → length fields ≤ 62 → take (length fields) (padded 62 (map f fields)) ≡ map f fields
 all_laid f fields h =
@@ -65,3 +75,7 @@ ends fields i x s from e = either (leb n 62) refl
         ap (λ fs. by_gathered n (gathered fs) x s from) whole
         ∙ ap₂ (λ es ps. by_lists n es ps x s from) (all_laid (λ f. f.encoding) fields h) (all_laid (λ f. f.predictor) fields h)
     either false many = rw many
+
+pub ended : (fields : List FieldDef) (i : ℕ) (x : Context) (s : List ℕ) (from : Cursor) {g : Gathered} {r : FieldReading}
+    → r ≡ by_gathered (length fields) g x s from → g ≡ gathered (take i fields) → i ≡ min (length fields) 62 → r ≡ by_records fields x s from
+ended fields i x s from e f h = e ∙ ap (λ y. by_gathered (length fields) y x s from) f ∙ ends fields i x s from h

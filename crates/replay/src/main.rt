@@ -2,10 +2,11 @@
 // A log is a line, so that vectors are data and not code: vectors/README.md says what logs there are and how they are made.
 #![tactic(auto)]
 
-ghost use Rattle.std.specs.Prelude.{◌≡◌, ◌≤◌, length};
+ghost use Rattle.std.specs.Prelude.{◌≡◌, ◌≤◌, length, IfOk};
 
-use libc::{STDIN_FILENO, STDOUT_FILENO};
 use plan::{Definition, Numbers, Settings};
+use std::io;
+use std::io::{BufWriter, Write};
 use words::interval::Interval;
 use words::three::Three;
 use words::{escapes, interval, three};
@@ -22,39 +23,44 @@ struct Common {
     settings: Settings,
 }
 
-fn text(s: &[u8]) {
-    io::write_all(STDOUT_FILENO, s);
+fn text(out: &mut impl Write, s: &[u8]) -> io::Result<()> {
+    out.write_all(s)
 }
 
 // A line that is no case.
-fn refuse(line: &[u8]) {
-    text(b"? ");
-    text(line);
-    text(b"\n");
+fn refuse(out: &mut impl Write, line: &[u8]) -> io::Result<()> {
+    text(out, b"? ")?;
+    text(out, line)?;
+    text(out, b"\n")
 }
 
 // A line `lists T B M TEXT`, which puts TEXT in front of the buffer and prints nothing. One that is not written so leaves all as it was.
-fn lists(line: &[u8], common: Common, log: &mut [u8; LONGEST]) -> Common
+fn lists(
+    out: &mut impl Write,
+    line: &[u8],
+    common: Common,
+    log: &mut [u8; LONGEST],
+) -> io::Result<Common>
     requires { common.length ≤ 8192 }
-    ensures { result.length ≤ 8192 }
+    ensures { IfOk result (λ r. r.length ≤ 8192) }
 {
     let rest = words::behind(line);
     let three = three::numbers(rest);
     let Three::Are(numbers) = three else {
-        refuse(line);
-        return common;
+        refuse(out, line)?;
+        return Ok(common);
     };
     let lists = escapes::unescape(three::behind_three(rest), log);
     if !lists.is_right {
-        refuse(line);
-        return common;
+        refuse(out, line)?;
+        return Ok(common);
     }
     let settings = common.settings;
-    Common {
+    Ok(Common {
         length: lists.length,
         numbers,
         settings,
-    }
+    })
 }
 
 fn with(common: Common, settings: Settings) -> Common
@@ -70,77 +76,80 @@ fn with(common: Common, settings: Settings) -> Common
 }
 
 // A line `set plain` or `set interval I N D`, which prints nothing. One that is not written so leaves all as it was.
-fn set(line: &[u8], common: Common) -> Common
+fn set(out: &mut impl Write, line: &[u8], common: Common) -> io::Result<Common>
     requires { common.length ≤ 8192 }
-    ensures { result.length ≤ 8192 }
+    ensures { IfOk result (λ r. r.length ≤ 8192) }
 {
     let rest = words::behind(line);
-    if check::same(rest, b"plain") {
-        return with(common, Settings::plain());
+    if rest == b"plain".as_slice() {
+        return Ok(with(common, Settings::plain()));
     }
     let three = words::behind(rest);
     let read = interval::read(three);
     let is_alone = three::behind_three(three).len() == 0;
-    if !check::same(words::first(rest), b"interval") {
-        refuse(line);
-        return common;
+    if words::first(rest) != b"interval".as_slice() {
+        refuse(out, line)?;
+        return Ok(common);
     }
     if !is_alone {
-        refuse(line);
-        return common;
+        refuse(out, line)?;
+        return Ok(common);
     }
     let Interval::Is(interval) = read else {
-        refuse(line);
-        return common;
+        refuse(out, line)?;
+        return Ok(common);
     };
-    with(common, Settings { interval })
+    Ok(with(common, Settings { interval }))
 }
 
 // A case `LABEL REST`: the log goes on with REST behind the lists.
-fn case(line: &[u8], common: Common, log: &mut [u8])
+fn case(out: &mut impl Write, line: &[u8], common: Common, log: &mut [u8]) -> io::Result<()>
     requires { common.length ≤ length log.old }
 {
     let label = words::first(line);
     if label.len() == 0 {
-        refuse(line);
-        return;
+        return refuse(out, line);
     }
     let start = common.length;
     let rest = escapes::unescape(words::behind(line), &mut log[start..]);
     if !rest.is_right {
-        refuse(line);
-        return;
+        return refuse(out, line);
     }
     let n = start + rest.length;
     let numbers = common.numbers;
     let settings = common.settings;
-    text(b"= ");
-    text(label);
-    text(b"\n");
-    session::print_with(&log[..n], numbers, settings);
+    text(out, b"= ")?;
+    text(out, label)?;
+    text(out, b"\n")?;
+    session::print_with(out, &log[..n], numbers, settings)
 }
 
 // A line that begins with # is a heading of the table, and is copied.
-fn line(s: &[u8], common: Common, log: &mut [u8; LONGEST]) -> Common
+fn line(
+    out: &mut impl Write,
+    s: &[u8],
+    common: Common,
+    log: &mut [u8; LONGEST],
+) -> io::Result<Common>
     requires { common.length ≤ 8192 }
-    ensures { result.length ≤ 8192 }
+    ensures { IfOk result (λ r. r.length ≤ 8192) }
 {
     if words::is_heading(s) {
-        text(s);
-        text(b"\n");
-        return common;
+        text(out, s)?;
+        text(out, b"\n")?;
+        return Ok(common);
     }
-    if check::same(words::first(s), b"lists") {
-        return lists(s, common, log);
+    if words::first(s) == b"lists".as_slice() {
+        return lists(out, s, common, log);
     }
-    if check::same(words::first(s), b"set") {
-        return set(s, common);
+    if words::first(s) == b"set".as_slice() {
+        return set(out, s, common);
     }
-    case(s, common, log);
-    common
+    case(out, s, common, log)?;
+    Ok(common)
 }
 
-fn lines(s: &[u8]) {
+fn lines(out: &mut impl Write, s: &[u8]) -> io::Result<()> {
     let mut log = [0u8; LONGEST];
     let numbers = Definition::nothing().numbers;
     let mut common = Common {
@@ -152,13 +161,14 @@ fn lines(s: &[u8]) {
     while at < s.len() {
         let rest = &s[at..];
         let n = digits::until(rest, b'\n');
-        let next = line(&rest[..n], common, &mut log);
+        let next = line(out, &rest[..n], common, &mut log)?;
         common = next;
         at += n;
         if at < s.len() {
             at += 1;
         }
     }
+    Ok(())
 }
 
 // The ensures keeps the prover from counting the zeros where the buffer is lent.
@@ -168,8 +178,10 @@ fn space() -> [u8; 1048576]
     [0u8; 1048576]
 }
 
-fn main() {
+fn main(rt: HostRuntime) -> io::Result<()> {
     let mut space = space();
-    let n = io::read_full(STDIN_FILENO, &mut space);
-    lines(&space[..n]);
+    let n = terminal::read_full(&mut rt.stdin(), &mut space)?;
+    let mut out = BufWriter::new(rt.alloc(), rt.stdout())?;
+    lines(&mut out, &space[..n])?;
+    out.flush()
 }

@@ -9,6 +9,8 @@ use predictor::Surroundings;
 use reader::{Cursor, Read};
 use records::FieldDef;
 use section::MainAnswer;
+use std::io;
+use std::io::Write;
 
 fn records_of(predictors: [u8; 62], encodings: [u8; 62], signs: [u8; 62]) -> [FieldDef; 63] {
     let none = FieldDef {
@@ -17,15 +19,13 @@ fn records_of(predictors: [u8; 62], encodings: [u8; 62], signs: [u8; 62]) -> [Fi
         signed: false,
     };
     let mut records = [none; 63];
-    let mut i = 0;
-    while i < 62 {
+    for i in 0..62 {
         let field = FieldDef {
             predictor: predictors[i],
             encoding: encodings[i],
             signed: signs[i] != 0,
         };
         records[i] = field;
-        i += 1;
     }
     records
 }
@@ -63,6 +63,7 @@ fn behind_kind(at: usize, s: &[u8]) -> Cursor {
 
 // Reads the fields at a place by their records, prints the frame, and pushes it.
 fn fields(
+    out: &mut impl Write,
     letter: &[u8],
     mark: Mark,
     x: MainAnswer,
@@ -72,7 +73,7 @@ fn fields(
     records: [FieldDef; 63],
     context: Context,
     h: History,
-) -> History {
+) -> io::Result<History> {
     let reading = records::read_records(s, from, n, records, context);
     let fields = reading.fields;
     let values = fields.values;
@@ -83,13 +84,19 @@ fn fields(
         values,
     };
     let after = history::push_through(h, frame);
-    show::frame(letter, x, n, records, reading);
-    show::history(after);
-    after
+    show::frame(out, letter, x, n, records, reading)?;
+    show::history(out, after)?;
+    Ok(after)
 }
 
 // Only last is given, never older.
-pub fn intra(d: Definition, s: &[u8], x: MainAnswer, h: History) -> History {
+pub fn intra(
+    out: &mut impl Write,
+    d: Definition,
+    s: &[u8],
+    x: MainAnswer,
+    h: History,
+) -> io::Result<History> {
     let main = d.main;
     let predictors = main.intra_predictors;
     let encodings = main.intra_encodings;
@@ -99,6 +106,7 @@ pub fn intra(d: Definition, s: &[u8], x: MainAnswer, h: History) -> History {
     let behind_iteration = behind(variable(s, behind_kind(x.at, s)), s);
     let from = behind(variable(s, behind_iteration), s);
     fields(
+        out,
         b"I",
         Mark::Intra,
         x,
@@ -111,7 +119,13 @@ pub fn intra(d: Definition, s: &[u8], x: MainAnswer, h: History) -> History {
     )
 }
 
-pub fn inter(d: Definition, s: &[u8], x: MainAnswer, h: History) -> History {
+pub fn inter(
+    out: &mut impl Write,
+    d: Definition,
+    s: &[u8],
+    x: MainAnswer,
+    h: History,
+) -> io::Result<History> {
     let main = d.main;
     let predictors = main.inter_predictors;
     let encodings = main.inter_encodings;
@@ -120,6 +134,7 @@ pub fn inter(d: Definition, s: &[u8], x: MainAnswer, h: History) -> History {
     let context = context_of(d, h.last, h.older);
     let from = behind(variable_signed(s, behind_kind(x.at, s)), s);
     fields(
+        out,
         b"P",
         Mark::Inter,
         x,
@@ -133,7 +148,7 @@ pub fn inter(d: Definition, s: &[u8], x: MainAnswer, h: History) -> History {
 }
 
 // 62 fields without bytes, encoding 9, are read wherever they are asked for; 63 are refused.
-pub fn counts(d: Definition, s: &[u8]) {
+pub fn counts(out: &mut impl Write, d: Definition, s: &[u8]) -> io::Result<()> {
     let none = FieldDef {
         predictor: 0,
         encoding: 9,
@@ -146,8 +161,8 @@ pub fn counts(d: Definition, s: &[u8]) {
     let more = records::read_records(s, start, 63, records, context);
     let most_taken = most.taken;
     let more_taken = more.taken;
-    show::text(b"62 fields ");
-    show::taken(most_taken);
-    show::text(b"63 fields ");
-    show::taken(more_taken);
+    show::text(out, b"62 fields ")?;
+    show::taken(out, most_taken)?;
+    show::text(out, b"63 fields ")?;
+    show::taken(out, more_taken)
 }

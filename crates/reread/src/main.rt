@@ -7,29 +7,36 @@ ghost use Rattle.plan.specs.Sound.{sound};
 
 use definition::Verdict;
 use history::History;
-use libc::STDIN_FILENO;
 use plan::Definition;
 use section::{Answer, Walk};
+use std::io;
+use std::io::{BufWriter, Write};
 
 mod again;
 mod show;
 
 // The history behind an answer: a main frame is read again and pushed.
-fn read_again(d: Definition, s: &[u8], answer: Answer, h: History) -> History {
+fn read_again(
+    out: &mut impl Write,
+    d: Definition,
+    s: &[u8],
+    answer: Answer,
+    h: History,
+) -> io::Result<History> {
     match answer {
-        Answer::Passed => h,
-        Answer::Rejected(_, _) => h,
-        Answer::Event(_) => h,
-        Answer::Intra(x) => again::intra(d, s, x, h),
-        Answer::Inter(x) => again::inter(d, s, x, h),
-        Answer::Slow(_) => h,
-        Answer::Over(_) => h,
-        Answer::Refused(_) => h,
+        Answer::Passed => Ok(h),
+        Answer::Rejected(_, _) => Ok(h),
+        Answer::Event(_) => Ok(h),
+        Answer::Intra(x) => again::intra(out, d, s, x, h),
+        Answer::Inter(x) => again::inter(out, d, s, x, h),
+        Answer::Slow(_) => Ok(h),
+        Answer::Over(_) => Ok(h),
+        Answer::Refused(_) => Ok(h),
     }
 }
 
 // Calls until one is over, as the program walk makes them.
-fn walk(d: Definition, s: &[u8])
+fn walk(out: &mut impl Write, d: Definition, s: &[u8]) -> io::Result<()>
     requires { sound d ≡ true }
 {
     let mut walk = Walk::start();
@@ -42,15 +49,15 @@ fn walk(d: Definition, s: &[u8])
         let answer = looked.answer;
         let next = looked.walk;
         if answer.is_over() {
-            return;
+            return Ok(());
         }
-        h = read_again(d, s, answer, h);
+        h = read_again(out, d, s, answer, h)?;
         walk = next;
         barren = called.barren;
     }
 }
 
-fn log(log: &[u8]) {
+fn log(out: &mut impl Write, log: &[u8]) -> io::Result<()> {
     let header = header::read(log);
     let lists = header.lists;
     let section = header.section;
@@ -60,15 +67,17 @@ fn log(log: &[u8]) {
         Verdict::Pass => {
             let d = defined.definition;
             let s = &log[section..];
-            walk(d, s);
-            again::counts(d, s);
+            walk(out, d, s)?;
+            again::counts(out, d, s)
         }
-        Verdict::Refused(_) => show::text(b"refused\n"),
+        Verdict::Refused(_) => show::text(out, b"refused\n"),
     }
 }
 
-fn main() {
-    let mut text = io::large_buffer();
-    let n = io::read_full(STDIN_FILENO, &mut text);
-    log(&text[..n]);
+fn main(rt: HostRuntime) -> io::Result<()> {
+    let mut text = terminal::large_buffer();
+    let n = terminal::read_full(&mut rt.stdin(), &mut text)?;
+    let mut out = BufWriter::new(rt.alloc(), rt.stdout())?;
+    log(&mut out, &text[..n])?;
+    out.flush()
 }

@@ -1,31 +1,30 @@
-// A frame's line on standard output: letter, place, iteration and time as the walk has them;
+// A frame's line: letter, place, iteration and time as the walk has them;
 // the raw numbers and the values of the second reading; the frames of the history.
 // Raw numbers are signed by their encodings, values by their sign items, as 32-bit patterns are meant.
 use frame::fields::{FieldReading, Taken};
 use frame::{MainFrame, Mark};
 use history::History;
-use libc::STDOUT_FILENO;
 use records::FieldDef;
 use section::MainAnswer;
+use std::io;
+use std::io::Write;
 
-pub fn text(s: &[u8]) {
-    io::write_all(STDOUT_FILENO, s);
+pub fn text(out: &mut impl Write, s: &[u8]) -> io::Result<()> {
+    out.write_all(s)
 }
 
-fn number(n: u64) {
-    text(b" ");
-    io::print_decimal(STDOUT_FILENO, n);
+fn number(out: &mut impl Write, n: u64) -> io::Result<()> {
+    write!(out, " {n}")
 }
 
-fn pattern(v: u32, signed: bool) {
+fn pattern(out: &mut impl Write, v: u32, signed: bool) -> io::Result<()> {
     if signed {
         if 2147483647 < v {
-            text(b" -");
-            io::print_decimal(STDOUT_FILENO, 4294967296 - v as u64);
-            return;
+            let size = 4294967296 - v as u64;
+            return write!(out, " -{size}");
         }
     }
-    number(v as u64);
+    number(out, v as u64)
 }
 
 fn is_signed(field: FieldDef, raw: bool) -> bool {
@@ -36,76 +35,82 @@ fn is_signed(field: FieldDef, raw: bool) -> bool {
 }
 
 // The first n of 62 numbers.
-fn numbers(v: [u32; 62], raw: bool, n: usize, records: [FieldDef; 63]) {
-    let mut i = 0;
-    while i < 62 {
+fn numbers(
+    out: &mut impl Write,
+    v: [u32; 62],
+    raw: bool,
+    n: usize,
+    records: [FieldDef; 63],
+) -> io::Result<()> {
+    for i in 0..62 {
         if i < n {
-            pattern(v[i], is_signed(records[i], raw));
+            pattern(out, v[i], is_signed(records[i], raw))?;
         }
-        i += 1;
     }
+    Ok(())
 }
 
 // The place behind the fields, or why there is none; a refusal by its number and place.
-pub fn taken(t: Taken) {
+pub fn taken(out: &mut impl Write, t: Taken) -> io::Result<()> {
     match t {
         Taken::Next(behind) => {
-            text(b"next");
-            number(behind.at as u64);
+            text(out, b"next")?;
+            number(out, behind.at as u64)?;
         }
-        Taken::Cut => text(b"cut"),
-        Taken::Corrupt => text(b"corrupt"),
+        Taken::Cut => text(out, b"cut")?,
+        Taken::Corrupt => text(out, b"corrupt")?,
         Taken::Refused(why, place) => {
-            text(b"refused");
-            number(why as u64);
-            number(place as u64);
+            text(out, b"refused")?;
+            number(out, why as u64)?;
+            number(out, place as u64)?;
         }
     }
-    text(b"\n");
+    text(out, b"\n")
 }
 
 pub fn frame(
+    out: &mut impl Write,
     letter: &[u8],
     x: MainAnswer,
     n: usize,
     records: [FieldDef; 63],
     reading: FieldReading,
-) {
+) -> io::Result<()> {
     let fields = reading.fields;
     let raws = fields.raws;
     let values = fields.values;
     let behind = reading.taken;
-    text(letter);
-    number(x.at as u64);
-    number(x.iteration as u64);
-    number(x.time);
-    text(b" raw");
-    numbers(raws, true, n, records);
-    text(b" values");
-    numbers(values, false, n, records);
-    text(b" ");
-    taken(behind);
+    text(out, letter)?;
+    number(out, x.at as u64)?;
+    number(out, x.iteration as u64)?;
+    number(out, x.time)?;
+    text(out, b" raw")?;
+    numbers(out, raws, true, n, records)?;
+    text(out, b" values")?;
+    numbers(out, values, false, n, records)?;
+    text(out, b" ")?;
+    taken(out, behind)
 }
 
-fn held(f: MainFrame) {
+fn held(out: &mut impl Write, f: MainFrame) -> io::Result<()> {
     let mark = f.mark;
     match mark {
-        Mark::Absent => text(b" none"),
+        Mark::Absent => text(out, b" none"),
         Mark::Intra => {
-            text(b" I");
-            number(f.iteration as u64);
+            text(out, b" I")?;
+            number(out, f.iteration as u64)
         }
         Mark::Inter => {
-            text(b" P");
-            number(f.iteration as u64);
+            text(out, b" P")?;
+            number(out, f.iteration as u64)
         }
     }
 }
 
-pub fn history(h: History) {
-    text(b"last");
-    held(h.last);
-    text(b" older");
-    held(h.older);
-    text(b"\n");
+pub fn history(out: &mut impl Write, h: History) -> io::Result<()> {
+    text(out, b"last")?;
+    held(out, h.last)?;
+    text(out, b" older")?;
+    held(out, h.older)?;
+    text(out, b"\n")
 }

@@ -40,7 +40,8 @@ module _ (n : ℕ) where
 
   pub from_over : (a : Answer) → is_over (answer_from n a) ≡ is_over a
   unfolding is_over answer_from
-  from_over = by_answer (λ a. is_over (answer_from n a) ≡ is_over a) (λ x. refl) (λ x. refl) refl (λ k p. refl) (λ x. refl) (λ x. refl) (λ e. refl) (λ why. refl)
+  from_over =
+      by_answer (λ a. is_over (answer_from n a) ≡ is_over a) (λ x. refl) (λ x. refl) refl (λ k p. refl) (λ x. refl) (λ x. refl) (λ e. refl) (λ why. refl)
 
   pub from_frame : (a : Answer) → frame_at (answer_from n a) ≡ mapped (λ q. n + q) (frame_at a)
   unfolding frame_at answer_from mapped
@@ -60,7 +61,8 @@ module _ (vs : List ℕ) where
   pub outline_frame : (a : Answer) → frame_at (outline_of a vs).answer ≡ frame_at a
   unfolding frame_at outline_of
   outline_frame =
-      by_answer (λ a. frame_at (outline_of a vs).answer ≡ frame_at a) (λ x. refl) (λ x. refl) refl (λ k p. refl) (λ x. refl) (λ x. refl) (λ e. refl) (λ why. refl)
+      by_answer (λ a. frame_at (outline_of a vs).answer ≡ frame_at a)
+      (λ x. refl) (λ x. refl) refl (λ k p. refl) (λ x. refl) (λ x. refl) (λ e. refl) (λ why. refl)
 
   pub outline_over : (a : Answer) → is_over (outline_of a vs).answer ≡ is_over a
   unfolding is_over outline_of

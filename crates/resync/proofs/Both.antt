@@ -102,7 +102,8 @@ module _ (d : Definition) (b b' n p p' : ℕ) (here : p ≡ b + n) (there : p' �
   with_both found.Slow = untouched (λ q. Slow (record { at = q })) (fields_with d found.Slow x h) (λ m q. refl) refl refl
 
   after_both : (y : Seen)
-      → BothAt (answer_after d y p x h) (answer_after d y p' x h') (fields_after d y x h) (fields_after d y x h') (history_after d y x h) (history_after d y x h')
+      → BothAt (answer_after d y p x h) (answer_after d y p' x h') (fields_after d y x h) (fields_after d y x h')
+      (history_after d y x h) (history_after d y x h')
   unfolding answer_after fields_after history_after answer_from ending_from is_intra is_inter
   after_both seen.Nothing = untouched (λ q. Over Out) [] (λ m q. refl) refl refl
   after_both (seen.Passed s) = untouched (λ q. Passed) [] (λ m q. refl) refl refl

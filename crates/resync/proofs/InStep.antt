@@ -1,6 +1,6 @@
 -- Two walks that stand before the same bytes go in step, look by look and so call by call:
 -- they stay level, and what they show and what later frames read is as `Both` says.
-use Prim.Native.Nat.{ℕ, zero, suc, ◌+◌, ◌-◌}
+use Prim.Native.Nat.{ℕ, zero, suc, ◌+◌}
 use mathlib.Core.Bool.{Bool, true, false, cond, true≢false}
 use mathlib.Core.List.{List, ◌++◌}
 use mathlib.Core.Path.{◌≡◌, refl, sym, ap, ◌∙◌}
@@ -87,7 +87,8 @@ module _ (d : Definition) (pre pre' c : List ℕ) (t t' : Tally) where
 
   -- looks from v and w on, behind looks in vain from walks with the pasts g and g'
   module _ (step step' : Walk → Outcome) (in_step : InStep step step') where
-    until_come : (n : ℕ) (g g' : Past) (v w : Walk) → Abreast v w → past_in v ≡ g → past_in w ≡ g' → Come g g' (until step is_said n v) (until step' is_said n w)
+    until_come : (n : ℕ) (g g' : Past) (v w : Walk) → Abreast v w → past_in v ≡ g → past_in w ≡ g'
+        → Come g g' (until step is_said n v) (until step' is_said n w)
     unfolding until
     until_come zero g g' v w a e e' = rw (← e, ← e') (in_step v w a)
     until_come (suc n) g g' v w a e e' =

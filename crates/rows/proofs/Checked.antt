@@ -29,7 +29,8 @@ module _ (d : Definition) (s : List ℕ) (w : Walk) (out : List ℕ) {v : Check}
   unfolding checked_first
   next_refused e = next_by e
 
-  pub next_laid : (r : Laid) {after : List ℕ} → v ≡ Pass → laid r after ≡ laid_out (rows_from d s (length out / row_length d) w) out → NextOwes d w s out r after
+  pub next_laid : (r : Laid) {after : List ℕ} → v ≡ Pass → laid r after ≡ laid_out (rows_from d s (length out / row_length d) w) out
+      → NextOwes d w s out r after
   unfolding checked_first
   next_laid r pass e = e ∙ next_by pass
 

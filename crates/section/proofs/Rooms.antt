@@ -2,11 +2,11 @@
 use Prim.Native.Nat.{ℕ}
 use mathlib.Core.List.{List}
 use mathlib.Core.Option.{none}
-use mathlib.Core.Path.{◌≡◌, sym, ap, ◌∙◌}
+use mathlib.Core.Path.{◌≡◌, ap, ◌∙◌}
 use mir.Val.{Val}
 use denote.Laws.{Is}
 use denote.Struct.Declared as declared
-use lib.ListN.{length, length-map}
+use lib.ListN.{length}
 use lib.Seq.{length-sets}
 use Rattle.plan.specs.declared.Definition.{Definition}
 use Rattle.raws.specs.declared.Raw.{Raw}
@@ -35,9 +35,9 @@ module _ (d : Definition) (x : Raw) where
 
 -- ## A tally has four counts
 
--- `c.good` has such a part for each parameter
+-- `c.well_formed` has such a part for each parameter
 pub tally_counts : (t : Tally) {vs : List Val} → Is (declared.row tally.the_type) t vs → length t.counts ≡ 4
-tally_counts t g = sym (length-map t.counts (λ v. v)) ∙ g.1.1.1.1.0.1.0.1
+tally_counts t g = g.1.1.1.1.0.1.0.1
 
 pub walk_counts : (w : Walk) {vs : List Val} → Is (declared.row walk.the_type) w vs → length w.tally.counts ≡ 4
 walk_counts w g = tally_counts w.tally g.1.1.0

@@ -1,13 +1,13 @@
 // What a look does to a walk whose values stand in lent rooms: the faster form of `settle`, for whole walks.
 // Only small structs go by value, so that nothing is copied but the values of an accepted main frame. The fields go to lent rooms too, 0 behind the last.
 ghost use Rattle.std.specs.Prelude.{◌≡◌, replicate};
+ghost use Rattle.extent.specs.Sight.{beside};
 ghost use Rattle.frame.specs.Parts.{raw_of};
 ghost use Rattle.history.specs.Parts.{history_of};
 ghost use Rattle.section.specs.Answers.{handed};
 ghost use Rattle.section.specs.Fits.{Fits, Rooms};
-ghost use Rattle.section.specs.Lent.{told_beside};
-ghost use Rattle.section.specs.Owes.{LightOwes, WithOwes, SettleInOwes};
-ghost use Rattle.section.specs.Walk.{answer_with, fields_with, history_with, outcome};
+ghost use Rattle.section.specs.Lent.{told_beside, walk_of, light_of};
+ghost use Rattle.section.specs.Walk.{answer_with, fields_with, history_with, outcome, settled};
 
 use crate::{Answer, Ending, EventAnswer, MainAnswer, SlowAnswer, Tally, Walk};
 use extent::{Found, Glance, Seen};
@@ -32,7 +32,7 @@ pub struct Settled {
 impl Light {
     // With the values: the whole walk.
     pub fn with(self, last: [u32; 62], older: [u32; 62]) -> Walk
-        ensures { WithOwes self last older result }
+        ensures { result ≡ walk_of self last older }
     {
         let tally = self.tally;
         let heads = self.heads;
@@ -45,7 +45,7 @@ impl Light {
 
 impl Walk {
     pub fn light(self) -> Light
-        ensures { LightOwes self result }
+        ensures { result ≡ light_of self }
     {
         let tally = self.tally;
         let history = self.history;
@@ -144,8 +144,8 @@ pub fn settle_in(
     values: &mut [u32; 62],
 ) -> Settled
     requires { Fits w.tally g.seen length × Rooms d 62 }
-    ensures { SettleInOwes d w g raws.now length last.old older.old result last.new older.new
-        values.new }
+    ensures { told_beside result last.new older.new values.new ≡
+        handed (settled d (beside g raws.now) length (walk_of w last.old older.old)) (replicate 62 0) }
 {
     let before = w.tally;
     let heads = w.heads;

@@ -9,6 +9,8 @@ use definition::Verdict;
 use header::Header;
 use plan::{Definition, Numbers, Settings};
 use section::Walk;
+use std::io;
+use std::io::Write;
 
 mod show;
 
@@ -17,30 +19,35 @@ const HEADER: usize = 16384;
 const SECTION: usize = 65536;
 
 // Calls until one is over: a line for each frame, and the last line. The flag goes from call to call, so that a barren search is made once.
-fn walk(d: Definition, s: &[u8])
+fn walk(out: &mut impl Write, d: Definition, s: &[u8]) -> io::Result<()>
     requires { sound d ≡ true }
 {
     let mut walk = Walk::start();
     let mut barren = false;
     let mut values = [0u32; 62];
-    show::text(b"kind at values\n");
+    show::text(out, b"kind at values\n")?;
     loop {
         let called = calls::step(d, walk, s, barren, &mut values);
         let looked = called.looked;
         let answer = looked.answer;
         let next = looked.walk;
         if answer.is_over() {
-            show::end(next.tally);
-            return;
+            return show::end(out, next.tally);
         }
-        show::frame(d, answer, &values);
+        show::frame(out, d, answer, &values)?;
         walk = next;
         barren = called.barren;
     }
 }
 
 // Refused lists are not walked with.
-fn defined(log: &[u8], header: Header, numbers: Numbers, settings: Settings)
+fn defined(
+    out: &mut impl Write,
+    log: &[u8],
+    header: Header,
+    numbers: Numbers,
+    settings: Settings,
+) -> io::Result<()>
     requires { header.section ≤ length log.now }
 {
     let lists = header.lists;
@@ -48,27 +55,30 @@ fn defined(log: &[u8], header: Header, numbers: Numbers, settings: Settings)
     let defined = definition::define(log, lists, numbers, settings);
     let verdict = defined.verdict;
     match verdict {
-        Verdict::Pass => walk(defined.definition, &log[section..]),
-        Verdict::Refused(why) => show::refusal(why),
+        Verdict::Pass => walk(out, defined.definition, &log[section..]),
+        Verdict::Refused(why) => show::refusal(out, why),
     }
 }
 
-// Prints a log's session on standard output. The header numbers and settings are given, since document 01 takes none from a log's lines.
-pub fn print_with(log: &[u8], numbers: Numbers, settings: Settings) {
+// Prints a log's session. The header numbers and settings are given, since document 01 takes none from a log's lines.
+pub fn print_with(
+    out: &mut impl Write,
+    log: &[u8],
+    numbers: Numbers,
+    settings: Settings,
+) -> io::Result<()> {
     let header = header::read(log);
     if HEADER < header.section {
-        show::text(b"too long\n");
-        return;
+        return show::text(out, b"too long\n");
     }
     if SECTION < log.len() - header.section {
-        show::text(b"too long\n");
-        return;
+        return show::text(out, b"too long\n");
     }
-    defined(log, header, numbers, settings);
+    defined(out, log, header, numbers, settings)
 }
 
 // Prints a log's session with no header numbers and plain settings.
-pub fn print(log: &[u8]) {
+pub fn print(out: &mut impl Write, log: &[u8]) -> io::Result<()> {
     let numbers = Definition::nothing().numbers;
-    print_with(log, numbers, Settings::plain());
+    print_with(out, log, numbers, Settings::plain())
 }

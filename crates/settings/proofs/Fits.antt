@@ -20,7 +20,7 @@ use Rattle.plan.specs.declared.HeaderNumber.TheVariants as header
 use Rattle.plan.specs.declared.Numbers.{Numbers}
 use Rattle.settings.specs.declared.Ratio.{Ratio}
 use Rattle.settings.specs.Said.{said_at, line_of, numbers_of, inter_of, intra_of, interval_of, said_of}
-use Rattle.settings.specs.Texts.{number_of, front, back, unplussed, given, header_number_of, first_if, first_of_two}
+use Rattle.settings.specs.Texts.{number_of, front, back, given, header_number_of, first_if, first_of_two}
 use Rattle.settings.specs.Texts.{number32, or_zero, whole_of, over, ratio_of}
 use Rattle.settings.proofs.Texts.{number_le}
 

@@ -84,6 +84,7 @@ module _ (d : Definition) (s : List ℕ) (bytes : (i : ℕ) → get_or s i 0 < 2
 
 -- ## Behind a call
 
-pub called_sized : (d : Definition) (s : List ℕ) → ((i : ℕ) → get_or s i 0 < 256) → length s < 18446744073709551616 → (w : Walk) → admitted d (length s) w ≡ true
+pub called_sized : (d : Definition) (s : List ℕ) → ((i : ℕ) → get_or s i 0 < 256) → length s < 18446744073709551616 → (w : Walk)
+    → admitted d (length s) w ≡ true
     → WalkSized w → WalkSized (called d s w).walk
 called_sized d s bytes short w h k = (called_fine d s bytes short w (record { so = h; four = k.tally.four }, k)).1

@@ -8,7 +8,7 @@ use borrow.Author.Tests.{lt-ltb, le-ltb, le-leb, lt-leb, eq-eqb, ne_eqb}
 use mir.Val.{Val}
 use denote.Laws.{Is}
 use denote.Struct.Declared as declared
-use lib.ListN.{length, drop, length-append, length-map}
+use lib.ListN.{length, drop, length-append}
 use lib.Seq.{sets}
 use Rattle.plan.specs.declared.Definition.{Definition}
 use Rattle.plan.specs.declared.HeaderNumber.{HeaderNumber}
@@ -100,13 +100,13 @@ counted {b} {at = at} {v = v} e p = record { is = e ∙ ap (λ x. sets b at (le6
 pub listed : {b b' : List ℕ} {at k : ℕ} (xs : List ℕ) → length xs ≡ k → b' ≡ sets b at xs → Stored b at xs k b'
 listed xs h e = record { is = e; long = h }
 
--- the rooms of the slow lists, out of what owning them tells: `c.good` has such a part for each parameter
+-- the rooms of the slow lists, out of what owning them tells: `c.well_formed` has such a part for each parameter
 pub record SlowLists (s : Slow) : Type 0 where
   pub rooms : SlowRooms s
   pub slow_signs : length s.signs ≡ 16
 
 pub slow_lists : (s : Slow) {vs : List Val} → Is (declared.row slow.the_type) s vs → SlowLists s
-slow_lists s g = record { rooms = slow_rooms s g; slow_signs = sym (length-map s.signs (λ v. v)) ∙ g.1.1.1.1.1.0.1.0.1 }
+slow_lists s g = record { rooms = slow_rooms s g; slow_signs = g.1.1.1.1.1.0.1.0.1 }
 
 pub length_counts : (d : Definition) → length (count_bytes d) ≡ 56
 unfolding count_bytes le64 le32

@@ -110,7 +110,8 @@ packed_is m s at k {code} f e h =
 -- the half bytes of byte j behind the head at a place, and half byte k
 module _ (s : List ℕ) (at : ℕ) where
   behind_at : (j : ℕ)
-      → (get_or (halves_behind at s) (2 * j) 0 ≡ get_or s (at + (1 + j)) 0 / 16) × (get_or (halves_behind at s) (suc (2 * j)) 0 ≡ get_or s (at + (1 + j)) 0 % 16)
+      → (get_or (halves_behind at s) (2 * j) 0 ≡ get_or s (at + (1 + j)) 0 / 16)
+      × (get_or (halves_behind at s) (suc (2 * j)) 0 ≡ get_or s (at + (1 + j)) 0 % 16)
   unfolding halves_behind
   behind_at j = simp get_or-drop at (halves_at (drop 1 (drop at s)) j)
 

@@ -2,10 +2,13 @@
 // The buffer has one byte more than the longest log, so that a longer one is seen to be too long.
 #![tactic(auto)]
 
-use libc::STDIN_FILENO;
+use std::io;
+use std::io::{BufWriter, Write};
 
-fn main() {
+fn main(rt: HostRuntime) -> io::Result<()> {
     let mut text = [0u8; 81921];
-    let n = io::read_full(STDIN_FILENO, &mut text);
-    session::print(&text[..n]);
+    let n = terminal::read_full(&mut rt.stdin(), &mut text)?;
+    let mut out = BufWriter::new(rt.alloc(), rt.stdout())?;
+    session::print(&mut out, &text[..n])?;
+    out.flush()
 }

@@ -1,8 +1,6 @@
 -- `digits::decimal` meets its contract. The invariant: the bytes before `i` write `n`. Assumes nothing.
-use Prim.Native.Nat.{◌-◌, ◌^◌, ◌<◌}
 use borrow.Author.Rules.{rules}
-use lib.ListN.{length}
-use Rattle.digits.proofs.Digits.{Read, none_written, read_first, read_on, read_wrong, read_end}
+use Rattle.digits.proofs.Digits.{none_written, read_first, read_on, read_wrong, read_end}
 use Rattle.digits.proofs.decimal.Goals as goal
 
 pub returns-then-s-eq0 : goal.returns-then-s-eq0

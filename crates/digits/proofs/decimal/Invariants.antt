@@ -1,8 +1,7 @@
 -- `digits::decimal` meets its contract. The invariant: the bytes before `i` write `n`. Assumes nothing.
 use Prim.Native.Nat.{◌-◌, ◌^◌, ◌<◌}
-use borrow.Author.Rules.{rules}
 use lib.ListN.{length}
-use Rattle.digits.proofs.Digits.{Read, none_written, read_first, read_on, read_wrong, read_end}
+use Rattle.digits.proofs.Digits.{Read}
 use Rattle.digits.proofs.decimal.Given as goal
 
 abbrev pub invariant-loop-i : goal.invariant-loop-i

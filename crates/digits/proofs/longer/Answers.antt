@@ -1,5 +1,4 @@
 -- `digits::longer` meets its contract: each test that fails is one of the definition's. Assumes nothing.
-use borrow.Author.Rules.{rules}
 use native.Mathlib.Omega.{arith}
 use Rattle.digits.proofs.Digits.{too_low, too_high, too_long, longer_fits}
 use Rattle.digits.proofs.longer.Goals as goal

@@ -1,8 +1,5 @@
 -- `digits::until` meets its contract. The invariant: no `b` stands before `i`. Assumes nothing.
-use Prim.Native.Nat.{◌-◌}
-use borrow.Author.Rules.{rules}
-use lib.ListN.{length}
-use Rattle.digits.proofs.Parting.{Come, come_first, come_on, come_there, come_end}
+use Rattle.digits.proofs.Parting.{come_first, come_on, come_there, come_end}
 use Rattle.digits.proofs.until.Goals as goal
 
 pub loop-i-init : goal.loop-i-init

@@ -1,8 +1,7 @@
 -- `digits::until` meets its contract. The invariant: no `b` stands before `i`. Assumes nothing.
 use Prim.Native.Nat.{◌-◌}
-use borrow.Author.Rules.{rules}
 use lib.ListN.{length}
-use Rattle.digits.proofs.Parting.{Come, come_first, come_on, come_there, come_end}
+use Rattle.digits.proofs.Parting.{Come}
 use Rattle.digits.proofs.until.Given as goal
 
 abbrev pub invariant-loop-i : goal.invariant-loop-i

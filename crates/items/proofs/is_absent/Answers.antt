@@ -1,5 +1,4 @@
 -- `items::is_absent` meets its contract, by the two cases of a stretch. Assumes nothing.
-use borrow.Author.Rules.{rules}
 use Rattle.items.specs.Items.{absent}
 use Rattle.items.proofs.is_absent.Goals as goal
 

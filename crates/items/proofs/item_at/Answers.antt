@@ -1,8 +1,7 @@
 -- `items::item_at` meets its contract: at each turn `from` is where item `j` starts. Assumes nothing.
-use Prim.Native.Nat.{◌≤◌, ◌-◌}
 use borrow.Author.Rules.{rules}
 use native.Mathlib.Omega.{arith}
-use Rattle.items.proofs.Items.{Stands, stands_first, ends, stands_next, item_at_here, item_at_beyond}
+use Rattle.items.proofs.Items.{stands_first, ends, stands_next, item_at_here, item_at_beyond}
 use Rattle.items.proofs.item_at.Goals as goal
 
 pub loop-j-init : goal.loop-j-init

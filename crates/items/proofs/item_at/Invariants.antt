@@ -1,8 +1,6 @@
 -- `items::item_at` meets its contract: at each turn `from` is where item `j` starts. Assumes nothing.
 use Prim.Native.Nat.{◌≤◌, ◌-◌}
-use borrow.Author.Rules.{rules}
-use native.Mathlib.Omega.{arith}
-use Rattle.items.proofs.Items.{Stands, stands_first, ends, stands_next, item_at_here, item_at_beyond}
+use Rattle.items.proofs.Items.{Stands}
 use Rattle.items.proofs.item_at.Given as goal
 
 abbrev pub invariant-loop-j : goal.invariant-loop-j

@@ -1,10 +1,8 @@
 -- `items::item_end` meets its contract: at each turn the item's end is where it was found to be. Assumes nothing.
 use Prim.Native.Nat.{◌≤◌, ◌-◌, ◌+◌}
 use mathlib.Core.Path.{◌≡◌}
-use borrow.Author.Rules.{rules}
 use lib.ListN.{length, drop}
 use Rattle.items.specs.Width.{width}
-use Rattle.items.proofs.Items.{end_comma, end_other, end_text}
 use Rattle.items.proofs.item_end.Given as goal
 
 abbrev pub invariant-loop-end : goal.invariant-loop-end

@@ -1,5 +1,4 @@
 -- `items::put` meets its contract: a set beyond the end changes nothing. Assumes nothing.
-use borrow.Author.Rules.{rules}
 use native.Mathlib.Omega.{arith}
 use mathlib.Core.Path.{sym}
 use lib.Seq.{set_out}

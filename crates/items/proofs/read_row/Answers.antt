@@ -1,8 +1,5 @@
 -- `items::read_row` meets its contract: at each turn the codes are those of the items before the one at hand. Assumes nothing.
-use Prim.Native.Nat.{◌-◌}
-use borrow.Author.Rules.{rules}
-use lib.ListN.{length}
-use Rattle.items.proofs.Rows.{Filled, filled_first, filled_on, filled_end}
+use Rattle.items.proofs.Rows.{filled_first, filled_on, filled_end}
 use Rattle.items.proofs.read_row.Goals as goal
 
 pub loop-end-init : goal.loop-end-init

@@ -1,8 +1,7 @@
 -- `items::read_row` meets its contract: at each turn the codes are those of the items before the one at hand. Assumes nothing.
 use Prim.Native.Nat.{◌-◌}
-use borrow.Author.Rules.{rules}
 use lib.ListN.{length}
-use Rattle.items.proofs.Rows.{Filled, filled_first, filled_on, filled_end}
+use Rattle.items.proofs.Rows.{Filled}
 use Rattle.items.proofs.read_row.Given as goal
 
 abbrev pub invariant-loop-end : goal.invariant-loop-end

@@ -1,7 +1,6 @@
 -- `octets::put32` meets its contract: each of the four bytes is stored behind the one before. It requires four bytes of room.
 use native.Mathlib.Omega.{arith}
 use lib.ListN.{length-set}
-use borrow.Author.Rules.{rules}
 use Rattle.octets.proofs.Stores.{put_four}
 use Rattle.octets.proofs.put32.Goals as goal
 

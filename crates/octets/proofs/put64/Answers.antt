@@ -1,5 +1,4 @@
 -- `octets::put64` meets its contract: the high half is stored behind the low one. It requires eight bytes of room.
-use borrow.Author.Rules.{rules}
 use Rattle.octets.proofs.Stores.{put_long}
 use Rattle.octets.proofs.put64.Goals as goal
 

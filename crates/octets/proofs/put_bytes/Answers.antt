@@ -1,8 +1,6 @@
 -- `octets::put_bytes` meets its contract. The invariant: the first i bytes are stored. The measure is the bytes left. It requires room for all.
-use mathlib.Core.Path.{◌≡◌, refl}
-use Prim.Native.Nat.{◌≤◌, ◌-◌}
-use lib.ListN.{length, take, length-set}
-use lib.Seq.{sets}
+use mathlib.Core.Path.{refl}
+use lib.ListN.{length-set}
 use borrow.Author.Rules.{rules}
 use Rattle.octets.proofs.Stores.{put_byte, put_all}
 use Rattle.octets.proofs.put_bytes.Goals as goal

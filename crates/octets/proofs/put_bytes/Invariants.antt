@@ -1,10 +1,8 @@
 -- `octets::put_bytes` meets its contract. The invariant: the first i bytes are stored. The measure is the bytes left. It requires room for all.
-use mathlib.Core.Path.{◌≡◌, refl}
+use mathlib.Core.Path.{◌≡◌}
 use Prim.Native.Nat.{◌≤◌, ◌-◌}
-use lib.ListN.{length, take, length-set}
+use lib.ListN.{length, take}
 use lib.Seq.{sets}
-use borrow.Author.Rules.{rules}
-use Rattle.octets.proofs.Stores.{put_byte, put_all}
 use Rattle.octets.proofs.put_bytes.Given as goal
 
 abbrev pub invariant-loop-i : goal.invariant-loop-i

@@ -1,9 +1,6 @@
 -- `octets::put_longs` meets its contract. The invariant: the first i numbers are stored, and j is the place behind them.
 -- The measure is the numbers left. It requires room for all.
-use mathlib.Core.Path.{◌≡◌, refl}
-use Prim.Native.Nat.{◌≤◌, ◌-◌, ◌+◌, ◌*◌}
-use lib.ListN.{length, take}
-use lib.Seq.{sets}
+use mathlib.Core.Path.{refl}
 use borrow.Author.Rules.{rules}
 use Rattle.octets.specs.Bytes.{longs}
 use Rattle.octets.proofs.Stores.{put_number, put_all}
@@ -23,14 +20,13 @@ loop-i-smaller c = search rules
 
 pub loop-i-preserved : goal.loop-i-preserved
 unfolding longs
-loop-i-preserved c =
-    (
-      search rules,
-      search rules,
-      search rules,
-      put_number _ _ _ _ _ _ _ c.loop-i.invariant.3 c.loop-i-test.true
-          c.loop-i.invariant.1 c.put64.ensures,
-    )
+loop-i-preserved c = (
+  search rules,
+  search rules,
+  search rules,
+  put_number _ _ _ _ _ _ _ c.loop-i.invariant.3 c.loop-i-test.true
+      c.loop-i.invariant.1 c.put64.ensures,
+)
 
 pub shape_of-buf : goal.shape_of-buf
 unfolding longs

@@ -1,9 +1,6 @@
 -- `octets::put_values` meets its contract. The invariant: the first i values are stored, and j is the place behind them.
 -- The measure is the values left. It requires room for all.
-use mathlib.Core.Path.{◌≡◌, refl}
-use Prim.Native.Nat.{◌≤◌, ◌-◌, ◌+◌, ◌*◌}
-use lib.ListN.{length, take}
-use lib.Seq.{sets}
+use mathlib.Core.Path.{refl}
 use borrow.Author.Rules.{rules}
 use Rattle.octets.specs.Bytes.{words}
 use Rattle.octets.proofs.Stores.{put_value, put_all}
@@ -23,14 +20,13 @@ loop-i-smaller c = search rules
 
 pub loop-i-preserved : goal.loop-i-preserved
 unfolding words
-loop-i-preserved c =
-    (
-      search rules,
-      search rules,
-      search rules,
-      put_value _ _ _ _ _ _ _ c.loop-i.invariant.3 c.loop-i-test.true
-          c.loop-i.invariant.1 c.put32.ensures,
-    )
+loop-i-preserved c = (
+  search rules,
+  search rules,
+  search rules,
+  put_value _ _ _ _ _ _ _ c.loop-i.invariant.3 c.loop-i-test.true
+      c.loop-i.invariant.1 c.put32.ensures,
+)
 
 pub shape_of-buf : goal.shape_of-buf
 unfolding words

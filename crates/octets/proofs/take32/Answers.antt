@@ -1,5 +1,4 @@
 -- `octets::take32` meets its contract: the four bytes, each weighed by its place. It requires four bytes to read.
-use borrow.Author.Rules.{rules}
 use Rattle.octets.proofs.Loads.{num_at}
 use Rattle.octets.proofs.take32.Goals as goal
 

@@ -1,5 +1,4 @@
 -- `octets::take64` meets its contract: the low half, and the high half weighed by 4294967296. It requires eight bytes to read.
-use borrow.Author.Rules.{rules}
 use Rattle.octets.proofs.Loads.{take_long}
 use Rattle.octets.proofs.take64.Goals as goal
 

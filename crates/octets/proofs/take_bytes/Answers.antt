@@ -1,7 +1,6 @@
 -- `octets::take_bytes` meets its contract. The invariant: the first i bytes are loaded. The measure is the places left. It requires the bytes of all.
-use mathlib.Core.Path.{◌≡◌, refl}
-use Prim.Native.Nat.{◌≤◌, ◌-◌}
-use lib.ListN.{length, take, drop, length-set}
+use mathlib.Core.Path.{refl}
+use lib.ListN.{take, length-set}
 use borrow.Author.Rules.{rules}
 use Rattle.octets.proofs.Loads.{take_byte, take_whole}
 use Rattle.octets.proofs.take_bytes.Goals as goal

@@ -1,9 +1,7 @@
 -- `octets::take_bytes` meets its contract. The invariant: the first i bytes are loaded. The measure is the places left. It requires the bytes of all.
-use mathlib.Core.Path.{◌≡◌, refl}
+use mathlib.Core.Path.{◌≡◌}
 use Prim.Native.Nat.{◌≤◌, ◌-◌}
-use lib.ListN.{length, take, drop, length-set}
-use borrow.Author.Rules.{rules}
-use Rattle.octets.proofs.Loads.{take_byte, take_whole}
+use lib.ListN.{length, take, drop}
 use Rattle.octets.proofs.take_bytes.Given as goal
 
 abbrev pub invariant-loop-i : goal.invariant-loop-i

@@ -1,8 +1,7 @@
 -- `octets::take_values` meets its contract. The invariant: the first i values are loaded, and j is the place behind their bytes.
 -- The measure is the places left. It requires the bytes of all.
-use mathlib.Core.Path.{◌≡◌, refl}
-use Prim.Native.Nat.{◌≤◌, ◌-◌, ◌+◌, ◌*◌}
-use lib.ListN.{length, take, drop, length-set}
+use mathlib.Core.Path.{refl}
+use lib.ListN.{length-set}
 use borrow.Author.Rules.{rules}
 use Rattle.octets.specs.Bytes.{nums}
 use Rattle.octets.proofs.Loads.{take_value, take_whole}
@@ -22,13 +21,12 @@ loop-i-smaller c = search rules
 
 pub loop-i-preserved : goal.loop-i-preserved
 unfolding nums
-loop-i-preserved c =
-    (
-      search rules,
-      search rules,
-      simp length-set c.loop-i.invariant.2,
-      take_value _ _ _ _ _ c.loop-i.invariant.3 c.loop-i-test.true c.loop-i.invariant.1 c.take32.ensures,
-    )
+loop-i-preserved c = (
+  search rules,
+  search rules,
+  simp length-set c.loop-i.invariant.2,
+  take_value _ _ _ _ _ c.loop-i.invariant.3 c.loop-i-test.true c.loop-i.invariant.1 c.take32.ensures,
+)
 
 pub shape_of-values : goal.shape_of-values
 unfolding nums

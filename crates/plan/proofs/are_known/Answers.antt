@@ -1,11 +1,5 @@
 -- `plan::are_known` meets its contract. The invariant: the fields before `i` are known. Assumes nothing.
-use Prim.Native.Nat.{◌-◌}
-use mathlib.Core.Bool.{true, false}
-use borrow.Author.Rules.{rules}
-use lib.ListN.{length}
-use Rattle.plan.specs.Known as codes
-use Rattle.plan.specs.Sound.{known}
-use Rattle.plan.proofs.Needs.{Passed, passed_on, first_fails, second_fails, passed_all, known_is}
+use Rattle.plan.proofs.Needs.{passed_on, first_fails, second_fails, passed_all, known_is}
 use Rattle.plan.proofs.are_known.Goals as goal
 
 pub loop-i-init : goal.loop-i-init

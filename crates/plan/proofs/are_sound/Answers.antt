@@ -1,7 +1,6 @@
 -- `plan::are_sound` meets its contract, test by test. Assumes nothing.
-use borrow.Author.Rules.{rules}
 use native.Mathlib.Omega.{arith}
-use lib.ListN.{take, length-take}
+use lib.ListN.{length-take}
 use Rattle.plan.proofs.Sound.{fields_crowded, fields_codes_fail, fields_needs}
 use Rattle.plan.proofs.are_sound.Goals as goal
 

@@ -1,20 +1,7 @@
 -- `plan::is_met` meets its contract: four predictors have a need, and every other number is none of them. Assumes nothing.
-use borrow.Author.Rules.{rules}
 use borrow.Author.Tests.{ne_eqb}
 use Rattle.plan.specs.Sound.{met}
 use Rattle.plan.proofs.is_met.Goals as goal
-
-pub is_given-requires : goal.is_given-requires
-unfolding met
-is_given-requires c = search rules
-
-pub is_given-requires-in-9 : goal.is_given-requires-in-9
-unfolding met
-is_given-requires-in-9 c = search rules
-
-pub is_given-requires-in-11 : goal.is_given-requires-in-11
-unfolding met
-is_given-requires-in-11 c = search rules
 
 pub returns-in-4 : goal.returns-in-4
 unfolding met

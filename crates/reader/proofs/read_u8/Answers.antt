@@ -1,5 +1,4 @@
 -- `reader::read_u8` meets its contract. Assumes nothing.
-use borrow.Author.Rules.{rules}
 use Rattle.reader.proofs.Bytes.{byte_here, byte_end}
 use Rattle.reader.proofs.read_u8.Goals as goal
 

@@ -1,8 +1,6 @@
 -- `reader::skip_to_frame` meets its contract. The invariant: nothing lies between the start and `i`. Assumes nothing.
-use Prim.Native.Nat.{◌≤◌, ◌-◌}
 use borrow.Author.Rules.{rules}
-use lib.ListN.{length}
-use Rattle.reader.proofs.Searching.{Come, come_here, come_on, come_found, come_end}
+use Rattle.reader.proofs.Searching.{come_here, come_on, come_found, come_end}
 use Rattle.reader.proofs.skip_to_frame.Goals as goal
 
 pub loop-i-init : goal.loop-i-init

@@ -25,4 +25,10 @@ returns-in-72 c = rw c.in-72.is
 
 pub returns-in_default : goal.returns-in_default
 returns-in_default c =
-    passed _ (c.in_default.in_default-own.rest.0.0.0.0.1, c.in_default.in_default-own.rest.0.0.0.1, c.in_default.in_default-own.rest.0.0.1, c.in_default.in_default-own.rest.0.1, c.in_default.in_default-own.rest.1)
+    passed _ (
+      c.in_default.in_default-own.rest.0.0.0.0.1,
+      c.in_default.in_default-own.rest.0.0.0.1,
+      c.in_default.in_default-own.rest.0.0.1,
+      c.in_default.in_default-own.rest.0.1,
+      c.in_default.in_default-own.rest.1,
+    )

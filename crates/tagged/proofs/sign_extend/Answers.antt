@@ -1,5 +1,4 @@
 -- `tagged::sign_extend` meets its contract. Assumes nothing.
-use borrow.Author.Rules.{rules}
 use native.Mathlib.Omega.{arith}
 use Rattle.tagged.proofs.Patterns.{extended}
 use Rattle.tagged.proofs.sign_extend.Goals as goal

@@ -1,7 +1,6 @@
 -- `decode::negative_14_bit::minus_low_14` meets its contract. Assumes nothing.
 use native.Mathlib.Omega.{arith}
 use Rattle.decode.proofs.Minus.{minus_none, minus_low, minus_high}
-use borrow.Author.Rules.{rules}
 use Rattle.decode.proofs.negative_14_bit.minus_low_14.Goals as goal
 
 pub returns-then-v-eq0 : goal.returns-then-v-eq0

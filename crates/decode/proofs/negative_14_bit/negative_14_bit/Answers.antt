@@ -1,7 +1,6 @@
 -- `decode::negative_14_bit::negative_14_bit` meets its contract. Assumes nothing.
 use Rattle.reader.proofs.Reading.{num_num, num_cut, num_corrupt}
 use Rattle.decode.proofs.Made.{encoding3_of}
-use borrow.Author.Rules.{rules}
 use Rattle.decode.proofs.negative_14_bit.negative_14_bit.Goals as goal
 
 pub returns-in-Num : goal.returns-in-Num

@@ -2,7 +2,6 @@
 use mathlib.Core.Path.{◌∙◌}
 use native.Mathlib.Omega.{arith}
 use Rattle.decode.proofs.Headed.{head_end, head_high, head_low}
-use borrow.Author.Rules.{rules}
 use Rattle.decode.proofs.tagged_variable.headed_group.Goals as goal
 
 pub returns-then-limit-wide : goal.returns-then-limit-wide

@@ -4,7 +4,6 @@ use mathlib.Core.List.{[], ◌∷◌}
 use mathlib.Core.Path.{◌∙◌}
 use Rattle.reader.proofs.Reading.{group_num, group_cut, group_corrupt}
 use Rattle.decode.proofs.Made.{alone_of}
-use borrow.Author.Rules.{rules}
 use Rattle.decode.proofs.tagged_variable.lone_field.Goals as goal
 
 pub returns-in-Num : goal.returns-in-Num

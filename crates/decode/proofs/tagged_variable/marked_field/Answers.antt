@@ -1,6 +1,5 @@
 -- `decode::tagged_variable::marked_field` meets its contract. Assumes nothing.
 use Rattle.decode.proofs.Marked.{unmarked, is_marked}
-use borrow.Author.Rules.{rules}
 use Rattle.decode.proofs.tagged_variable.marked_field.Goals as goal
 
 pub returns-then-bit-eq0 : goal.returns-then-bit-eq0

@@ -1,9 +1,7 @@
 -- `decode::tagged_variable::marked_fields` meets its contract. The invariant is `Held`; a turn is one field. Assumes nothing.
 use mathlib.Core.Path.{◌∙◌}
-use Prim.Native.Nat.{◌-◌}
 use native.Mathlib.Omega.{arith}
-use Rattle.decode.proofs.Marked.{Held, held_first, held_inside, held_on, held_cut, held_corrupt, held_end}
-use borrow.Author.Rules.{rules}
+use Rattle.decode.proofs.Marked.{held_first, held_inside, held_on, held_cut, held_corrupt, held_end}
 use Rattle.decode.proofs.tagged_variable.marked_fields.Goals as goal
 
 pub loop-left-init : goal.loop-left-init

@@ -1,6 +1,5 @@
 -- `decode::tagged_variable::tagged_variable` meets its contract. Assumes nothing.
 use Rattle.decode.proofs.Headed.{size_none, size_one, size_more, size_beyond}
-use borrow.Author.Rules.{rules}
 use Rattle.decode.proofs.tagged_variable.tagged_variable.Goals as goal
 
 pub returns-then-n-eq0 : goal.returns-then-n-eq0

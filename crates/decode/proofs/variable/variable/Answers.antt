@@ -1,7 +1,6 @@
 -- `decode::variable::variable` meets its contract: at each `return`, the bytes that were passed and the one at the place say what is read. Assumes nothing.
 use native.Mathlib.Omega.{arith}
 use Rattle.decode.proofs.Sevens.{running, start, step, ended, number, fifth, too_high}
-use borrow.Author.Rules.{rules}
 use Rattle.decode.proofs.variable.variable.Goals as goal
 
 pub returns-then-s-at : goal.returns-then-s-at

@@ -1,7 +1,6 @@
 -- `decode::variable::variable_signed` meets its contract. Assumes nothing.
 use Rattle.reader.proofs.Reading.{num_num, num_cut, num_corrupt}
 use Rattle.decode.proofs.Made.{encoding0_of}
-use borrow.Author.Rules.{rules}
 use Rattle.decode.proofs.variable.variable_signed.Goals as goal
 
 pub returns-in-Num : goal.returns-in-Num

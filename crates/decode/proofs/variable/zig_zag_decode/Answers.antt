@@ -3,7 +3,6 @@ use borrow.Author.Tests.{eq-eqb, ne_eqb}
 use native.Mathlib.Omega.{arith}
 use Rattle.bits.specs.Pattern.{wrap, pattern}
 use Rattle.decode.specs.Variable.{zigzag}
-use borrow.Author.Rules.{rules}
 use Rattle.decode.proofs.variable.zig_zag_decode.Goals as goal
 
 pub returns-then-n-eq0 : goal.returns-then-n-eq0

@@ -1,9 +1,7 @@
 -- `items::said::is_same` meets its contract. The invariant: the texts are alike up to `i`. Assumes nothing.
 use Prim.Native.Nat.{◌≤◌, ◌-◌}
-use native.Mathlib.Omega.{arith}
-use borrow.Author.Rules.{rules}
 use lib.ListN.{length}
-use Rattle.items.proofs.Saying.{lengths_differ, Alike, alike_first, alike_on, alike_differ, alike_end}
+use Rattle.items.proofs.Saying.{Alike}
 use Rattle.items.proofs.said.is_same.Given as goal
 
 abbrev pub invariant-loop-i : goal.invariant-loop-i

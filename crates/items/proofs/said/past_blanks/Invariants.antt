@@ -1,8 +1,7 @@
 -- `items::said::past_blanks` meets its contract. The invariant: nothing but blanks lies between `from` and `i`. Assumes nothing.
 use Prim.Native.Nat.{◌≤◌, ◌-◌}
-use borrow.Author.Rules.{rules}
 use lib.ListN.{length}
-use Rattle.items.proofs.Blanks.{Come, come_here, come_on, come_off, come_end}
+use Rattle.items.proofs.Blanks.{Come}
 use Rattle.items.proofs.said.past_blanks.Given as goal
 
 abbrev pub invariant-loop-i : goal.invariant-loop-i

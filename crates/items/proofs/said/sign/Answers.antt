@@ -1,5 +1,4 @@
 -- `items::said::sign` meets its contract. Assumes nothing.
-use borrow.Author.Rules.{rules}
 use Rattle.items.proofs.Blanks.{sign_end, sign_other, sign_zero, sign_more}
 use Rattle.items.proofs.said.sign.Goals as goal
 

@@ -1,5 +1,4 @@
 -- `plan::Definition::is_sound` meets its contract: it is sound where its fields and its interval are. Assumes nothing.
-use borrow.Author.Rules.{rules}
 use Rattle.plan.proofs.Sound.{sound_main_fails, sound_slow_fails, sound_interval_decides}
 use Rattle.plan.proofs.Definition.is_sound.Goals as goal
 

@@ -1,5 +1,4 @@
 -- `plan::FrameInterval::is_interval` meets its contract, one way through the code for each number. Assumes nothing.
-use borrow.Author.Rules.{rules}
 use Rattle.plan.proofs.Sound.{intra_unread, denominator_decides, numerator_fails}
 use Rattle.plan.proofs.FrameInterval.is_interval.Goals as goal
 

@@ -1,5 +1,4 @@
 -- `plan::HeaderNumber::of` meets its contract: a code below 65536 is a number. Assumes nothing.
-use borrow.Author.Rules.{rules}
 use Rattle.plan.proofs.Codes.{number_given, number_absent}
 use Rattle.plan.proofs.HeaderNumber.of.Goals as goal
 

@@ -1,5 +1,4 @@
 -- `plan::Main::is_sound` meets its contract, test by test. Assumes nothing.
-use borrow.Author.Rules.{rules}
 use native.Mathlib.Omega.{arith}
 use lib.ListN.{length-take}
 use Rattle.plan.proofs.Rooms.{main_rooms}
@@ -31,20 +30,16 @@ pub slice_bounds-c-end : goal.slice_bounds-c-end
 slice_bounds-c-end c = omega (arith, main_rooms c.args.self c.well_formed.0)
 
 pub slice_bounds-are_known-end-3 : goal.slice_bounds-are_known-end-3
-slice_bounds-are_known-end-3 c =
-    simp length-take (omega (arith, main_rooms c.args.self c.well_formed.0))
+slice_bounds-are_known-end-3 c = simp length-take (omega (arith, main_rooms c.args.self c.well_formed.0))
 
 pub slice_bounds-d-end : goal.slice_bounds-d-end
-slice_bounds-d-end c =
-    omega (arith, main_rooms c.args.self c.well_formed.0)
+slice_bounds-d-end c = omega (arith, main_rooms c.args.self c.well_formed.0)
 
 pub slice_bounds-are_known-end-4 : goal.slice_bounds-are_known-end-4
-slice_bounds-are_known-end-4 c =
-    simp length-take (omega (arith, main_rooms c.args.self c.well_formed.0))
+slice_bounds-are_known-end-4 c = simp length-take (omega (arith, main_rooms c.args.self c.well_formed.0))
 
 pub are_known-requires-2 : goal.are_known-requires-2
-are_known-requires-2 c =
-    simp length-take (omega (arith, main_rooms c.args.self c.well_formed.0))
+are_known-requires-2 c = simp length-take (omega (arith, main_rooms c.args.self c.well_formed.0))
 
 pub returns-then-not-are_known-2 : goal.returns-then-not-are_known-2
 returns-then-not-are_known-2 c = search main_inter_fails

@@ -1,5 +1,4 @@
 -- `plan::Slow::is_sound` meets its contract, test by test. Assumes nothing.
-use borrow.Author.Rules.{rules}
 use native.Mathlib.Omega.{arith}
 use lib.ListN.{length-take}
 use Rattle.plan.proofs.Rooms.{slow_rooms}

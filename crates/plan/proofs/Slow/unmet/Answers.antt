@@ -1,5 +1,4 @@
 -- `plan::Slow::unmet` meets its contract: a field count over 16 takes all the rooms. Assumes nothing.
-use borrow.Author.Rules.{rules}
 use native.Mathlib.Omega.{arith}
 use lib.ListN.{length-take}
 use Rattle.plan.proofs.Rooms.{slow_rooms, slow_unmet_is}

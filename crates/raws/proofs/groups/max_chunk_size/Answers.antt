@@ -17,4 +17,9 @@ returns-in-8 c = rw c.in-8.is
 
 pub returns-in_default : goal.returns-in_default
 unfolding size
-returns-in_default c = rw (ne_eqb _ 6 c.in_default.in_default-own.rest.0.0.1, ne_eqb _ 7 c.in_default.in_default-own.rest.0.1, ne_eqb _ 8 c.in_default.in_default-own.rest.1)
+returns-in_default c =
+    rw (
+      ne_eqb _ 6 c.in_default.in_default-own.rest.0.0.1,
+      ne_eqb _ 7 c.in_default.in_default-own.rest.0.1,
+      ne_eqb _ 8 c.in_default.in_default-own.rest.1,
+    )

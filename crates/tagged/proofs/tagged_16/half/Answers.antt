@@ -1,5 +1,4 @@
 -- `tagged::tagged_16::half` meets its contract. Assumes nothing.
-use borrow.Author.Rules.{rules}
 use native.Mathlib.Omega.{arith}
 use Rattle.tagged.proofs.Numbers8.{half_even, half_odd}
 use Rattle.tagged.proofs.tagged_16.half.Goals as goal

@@ -1,5 +1,4 @@
 -- `tagged::tagged_16::packed` meets its contract. Assumes nothing.
-use borrow.Author.Rules.{rules}
 use native.Mathlib.Omega.{arith}
 use mathlib.Core.Path.{refl}
 use Rattle.bits.specs.Pattern.{wrap, pattern, lowered}

@@ -1,5 +1,4 @@
 -- `tagged::tagged_16::tagged_16` meets its contract. Assumes nothing.
-use borrow.Author.Rules.{rules}
 use native.Mathlib.Omega.{arith}
 use Rattle.tagged.proofs.Ends.{end, short, whole}
 use Rattle.tagged.proofs.Numbers8.{headed8}

@@ -1,5 +1,4 @@
 -- `tagged::tagged_16::values_of` meets its contract. Assumes nothing.
-use borrow.Author.Rules.{rules}
 use native.Mathlib.Omega.{arith}
 use Rattle.tagged.proofs.Numbers8.{size8_is, values8_from}
 use Rattle.tagged.proofs.tagged_16.values_of.Goals as goal

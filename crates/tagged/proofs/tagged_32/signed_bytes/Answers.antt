@@ -1,5 +1,4 @@
 -- `tagged::tagged_32::signed_bytes` meets its contract. Assumes nothing.
-use borrow.Author.Rules.{rules}
 use native.Mathlib.Omega.{arith}
 use Rattle.tagged.proofs.Numbers7.{bytes_are, four_bytes_are}
 use Rattle.tagged.proofs.tagged_32.signed_bytes.Goals as goal

@@ -1,5 +1,4 @@
 -- `tagged::tagged_32::size_of` meets its contract. Assumes nothing.
-use borrow.Author.Rules.{rules}
 use native.Mathlib.Omega.{arith}
 use Rattle.tagged.proofs.Numbers7.{size7_at}
 use Rattle.tagged.proofs.tagged_32.size_of.Goals as goal

@@ -1,5 +1,4 @@
 -- `tagged::tagged_32::tagged_32` meets its contract. Assumes nothing.
-use borrow.Author.Rules.{rules}
 use native.Mathlib.Omega.{arith}
 use Rattle.tagged.proofs.Ends.{end, short, whole}
 use Rattle.tagged.proofs.Numbers7.{headed7}

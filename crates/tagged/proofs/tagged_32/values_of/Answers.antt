@@ -1,5 +1,4 @@
 -- `tagged::tagged_32::values_of` meets its contract. Assumes nothing.
-use borrow.Author.Rules.{rules}
 use native.Mathlib.Omega.{arith}
 use lib.Seq.{get_or-drop}
 use Rattle.bits.specs.Pattern.{signed}

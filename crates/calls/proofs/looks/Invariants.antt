@@ -1,0 +1,13 @@
+-- `calls::looks` meets its contract. The invariant: the walk where the loop stands is admitted and goes on,
+-- its call is the first walk's, the flag is right there, and the lent buffer is as it was. The measure is the bytes left.
+-- It requires an admitted walk that goes on, rooms for the fields, and a flag that is right.
+use Prim.Native.Nat.{◌-◌}
+use lib.ListN.{length}
+use Rattle.calls.proofs.Loop.{Stands}
+use Rattle.calls.proofs.looks.Given as goal
+
+abbrev pub invariant-loop-nothing : goal.invariant-loop-nothing
+invariant-loop-nothing l = Stands l.d l.s l.initial.out l.history l.initial.tally l.out l.tally l.known
+
+abbrev pub decreases-loop-nothing : goal.decreases-loop-nothing
+decreases-loop-nothing l = length l.s - l.tally.place

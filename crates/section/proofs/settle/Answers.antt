@@ -1,0 +1,20 @@
+-- `section::settle` meets its contract: what each thing that was seen does to the walk.
+-- Assumes a look that reaches over bytes of the section alone, a tally with sums that do not wrap, and rooms for every field.
+use Rattle.section.proofs.Effects.{see_nothing, see_passed, see_rejected, see_cut, see_accepted}
+use Rattle.section.proofs.settle.Goals as goal
+
+pub returns-in-Nothing : goal.returns-in-Nothing
+returns-in-Nothing c = see_nothing _ _ _ _ c.after-tally.ensures _ c.in-Nothing.is (c.looked.ensures _)
+
+pub returns-in-Passed : goal.returns-in-Passed
+returns-in-Passed c = see_passed _ _ _ _ c.after-tally.ensures _ c.in-Passed.is (c.looked-in-Passed.ensures _)
+
+pub returns-in-Rejected : goal.returns-in-Rejected
+returns-in-Rejected c = see_rejected _ _ _ _ c.after-tally.ensures _ c.in-Rejected.is (c.looked-in-Rejected.ensures _)
+
+pub returns-in-Cutoff : goal.returns-in-Cutoff
+returns-in-Cutoff c = see_cut _ _ _ _ c.after-tally.ensures _ c.in-Cutoff.is (c.looked-in-Cutoff.ensures _)
+
+pub returns-in-Accepted : goal.returns-in-Accepted
+returns-in-Accepted c =
+    see_accepted _ _ _ _ c.after-tally.ensures _ c.in-Accepted.is c.settle.ensures
