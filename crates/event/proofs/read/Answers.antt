@@ -1,38 +1,9 @@
 -- `event::read` meets its contract: the type has the reader that stands in its arm, and every other type has none. Assumes nothing.
 use mathlib.Core.Path.{refl}
-use borrow.Author.Rules.{rules}
 use native.Mathlib.Omega.{arith}
 use Rattle.event.specs.Events.{one_number, two_numbers, closing, of_type, event_read}
 use Rattle.event.proofs.Told.{byte_cut, of_type_law, of_none}
 use Rattle.event.proofs.read.Goals as goal
-
-pub read_u8-kind-requires : goal.read_u8-kind-requires
-unfolding of_type event_read
-read_u8-kind-requires c = search rules
-
-pub enum_known-kind : goal.enum_known-kind
-unfolding of_type event_read
-enum_known-kind c = search rules
-
-pub one_number-requires : goal.one_number-requires
-unfolding of_type event_read
-one_number-requires c = search rules
-
-pub two_numbers-requires : goal.two_numbers-requires
-unfolding of_type event_read
-two_numbers-requires c = search rules
-
-pub one_number-requires-in-15 : goal.one_number-requires-in-15
-unfolding of_type event_read
-one_number-requires-in-15 c = search rules
-
-pub two_numbers-requires-in-30 : goal.two_numbers-requires-in-30
-unfolding of_type event_read
-two_numbers-requires-in-30 c = search rules
-
-pub close-requires : goal.close-requires
-unfolding of_type event_read
-close-requires c = search rules
 
 pub returns-in-0 : goal.returns-in-0
 unfolding of_type event_read

@@ -11,9 +11,6 @@ slice_bounds-read_into-end c = simp length-take (omega arith)
 pub read_into-requires : goal.read_into-requires
 read_into-requires c = (simp length-take (omega arith), search rules)
 
-pub returns-then-n-lt62 : goal.returns-then-n-lt62
-returns-then-n-lt62 c = c.read_into.ensures
-
 pub returns : goal.returns
 returns c =
     all_rooms _ _ _ _ _ c.args.n c.read_into-2.ensures (omega arith)
