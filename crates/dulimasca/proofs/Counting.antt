@@ -26,16 +26,17 @@ use Rattle.octets.specs.Bytes.{longs}
 use Rattle.dulimasca.specs.Calls.{count_reply, count_by, count_of}
 use Rattle.dulimasca.specs.Define.{start_of}
 use Rattle.dulimasca.specs.Owes.{StartOwes, CountOwes}
-use Rattle.dulimasca.specs.Told.{Reply, packed, told_length, reply, telling, refuse, if_room, status_by, tally_numbers}
+use Rattle.dulimasca.specs.Told.{Reply, packed, told_length, reply, telling, refuse, refuse10, if_room, status_by, tally_numbers}
 use Rattle.dulimasca.proofs.Replying.{tells, refuses, room_there, room_short}
 use Rattle.dulimasca.proofs.Taken.{taken, not_taken}
 
 -- ## A walk's first state
 
 module _ (st told : List ℕ) where
-  pub start_short : {a : ℕ} → length st < state_length → a ≡ packed 11 state_length 0 → StartOwes st told a st told
+  -- that this refusal writes nothing, the function itself shows
+  pub start_short : {a : ℕ} → length st < state_length → reply a st told ≡ refuse 11 state_length st told → StartOwes st told a st told
   unfolding start_of
-  start_short h e = refuses st told e ∙ simp (lt-leb state_length (length st) h)
+  start_short h e = e ∙ simp (lt-leb state_length (length st) h)
 
   module _ (long : state_length ≤ length st) where
     begun : Reply
@@ -62,9 +63,10 @@ unfolding tally_numbers
 no_rows t = refl
 
 module _ (def s told : List ℕ) {r : TakenDefinition} (e : r ≡ taken_definition def) where
-  pub count_no_definition : {a : ℕ} → r.is_one ≡ false → a ≡ packed 10 0 0 → CountOwes def s told a told
+  -- that this refusal writes nothing, the function itself shows
+  pub count_no_definition : {a : ℕ} → r.is_one ≡ false → reply a [] told ≡ refuse10 [] told → CountOwes def s told a told
   unfolding count_of
-  count_no_definition f h = refuses [] told h ∙ simp (not_taken def e f)
+  count_no_definition f h = h ∙ simp (not_taken def e f)
 
   module _ (t : r.is_one ≡ true) {b : Bool} (sane : b ≡ sound r.definition) where
     by_definition : count_by r.definition s told ≡ count_of def s told

@@ -25,7 +25,7 @@ use Rattle.settings.specs.Stored.{are_settings, numbers_in, settings_in, with_se
 use Rattle.store.specs.Definition.{with_definition}
 use Rattle.dulimasca.specs.Define.{settings_of, about_log, defined_reply, judged_reply, defined_by, define_of}
 use Rattle.dulimasca.specs.Owes.{SettingsOwes, DefineOwes}
-use Rattle.dulimasca.specs.Told.{packed, told_length, reply, if_room}
+use Rattle.dulimasca.specs.Told.{packed, told_length, reply, refuse10, if_room}
 use Rattle.dulimasca.proofs.Replying.{tells, refuses, room_there, room_short}
 
 -- ## What a log says of itself
@@ -45,9 +45,10 @@ module _ (log buf : List ℕ) where
 -- ## The definition
 
 module _ (log chosen buf told : List ℕ) {t : Bool} (test : t ≡ are_settings chosen) where
-  pub define_unchosen : {x : ℕ} → not t ≡ true → x ≡ packed 10 0 0 → DefineOwes log chosen buf told x buf told
+  -- that this refusal writes nothing, the function itself shows
+  pub define_unchosen : {x : ℕ} → not t ≡ true → reply x buf told ≡ refuse10 buf told → DefineOwes log chosen buf told x buf told
   unfolding define_of
-  define_unchosen other e = refuses buf told e ∙ simp (sym test ∙ not-true t other)
+  define_unchosen other e = e ∙ simp (sym test ∙ not-true t other)
 
   module _ (are : not t ≡ false) where
     pub define_short : {x : ℕ} → length buf < 438 → x ≡ packed 11 438 0 → DefineOwes log chosen buf told x buf told

@@ -34,7 +34,7 @@ use Rattle.walks.proofs.Fields.{begins_with, hands_out_rooms, hands_out_few, wal
 use Rattle.dulimasca.specs.declared.walking.SortFor.{SortFor}
 use Rattle.dulimasca.specs.Calls.{fill_numbers, filled, checked_fill, fill_by, fill_of}
 use Rattle.dulimasca.specs.Owes.{FillOwes}
-use Rattle.dulimasca.specs.Told.{Reply, packed, packed_by, told_length, reply, refuse, if_room, sort_for}
+use Rattle.dulimasca.specs.Told.{Reply, packed, packed_by, told_length, reply, refuse, refuse10, if_room, sort_for}
 use Rattle.dulimasca.proofs.Replying.{tells, refuses, room_there, room_short}
 use Rattle.dulimasca.proofs.Taken.{taken, not_taken}
 
@@ -94,9 +94,10 @@ module _ (d : Definition) (s : List ℕ) (of : Sort) (k : ℕ) (sane : sound d �
 -- ## The ways
 
 module _ (def s : List ℕ) (kind k : ℕ) (out told : List ℕ) {r : TakenDefinition} (e : r ≡ taken_definition def) where
-  pub fill_no_definition : {a : ℕ} → r.is_one ≡ false → a ≡ packed 10 0 0 → FillOwes def s kind k out told a out told
+  -- that this refusal writes nothing, the function itself shows
+  pub fill_no_definition : {a : ℕ} → r.is_one ≡ false → reply a out told ≡ refuse10 out told → FillOwes def s kind k out told a out told
   unfolding fill_of
-  fill_no_definition f h = refuses out told h ∙ simp (not_taken def e f)
+  fill_no_definition f h = h ∙ simp (not_taken def e f)
 
   module _ (t : r.is_one ≡ true) {which : SortFor} (g : which ≡ sort_for kind) where
     by_sort : fill_by which r.definition s k out told ≡ fill_of def s kind k out told

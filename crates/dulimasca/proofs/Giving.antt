@@ -22,7 +22,7 @@ use Rattle.store.specs.State.{taken_state, with_state}
 use Rattle.octets.specs.Bytes.{longs}
 use Rattle.dulimasca.specs.Calls.{kept, rows_reply, untold_by, checked_reply, rows_by, rows_of}
 use Rattle.dulimasca.specs.Owes.{RowsOwes}
-use Rattle.dulimasca.specs.Told.{packed, packed_by, told_length, reply, refuse, status_by, tally_numbers}
+use Rattle.dulimasca.specs.Told.{packed, packed_by, told_length, reply, refuse, refuse10, status_by, tally_numbers}
 use Rattle.dulimasca.proofs.Replying.{tells, refuses}
 use Rattle.dulimasca.proofs.Taken.{taken, not_taken}
 use Rattle.dulimasca.proofs.TakenState.{walk_taken, walk_not_taken}
@@ -33,9 +33,10 @@ untold Pass x st out told h = rw (lt-leb told_length (length told) h)
 untold (Refused why) x st out told h = refl
 
 module _ (def st s out told : List ℕ) {r : TakenDefinition} (e : r ≡ taken_definition def) where
-  pub rows_no_definition : {a : ℕ} → r.is_one ≡ false → a ≡ packed 10 0 0 → RowsOwes def st s out told a st out told
+  -- that this refusal writes nothing, the function itself shows
+  pub rows_no_definition : {a : ℕ} → r.is_one ≡ false → reply a out told ≡ refuse10 out told → RowsOwes def st s out told a st out told
   unfolding rows_of
-  rows_no_definition f h = ap (kept st) (refuses out told h) ∙ simp (not_taken def e f)
+  rows_no_definition f h = ap (kept st) h ∙ simp (not_taken def e f)
 
   module _ (t : r.is_one ≡ true) {v : TakenState} (g : v ≡ taken_state st) where
     pub rows_no_state : {a : ℕ} → v.is_one ≡ false → a ≡ packed 10 0 0 → RowsOwes def st s out told a st out told

@@ -15,14 +15,15 @@ use Rattle.octets.specs.Bytes.{longs}
 use Rattle.dulimasca.specs.declared.log.KindFor.{KindFor}
 use Rattle.dulimasca.specs.Define.{name_reply, name_by, name_of}
 use Rattle.dulimasca.specs.Owes.{NameOwes}
-use Rattle.dulimasca.specs.Told.{Reply, packed, told_length, reply, refuse, if_room, kind_for}
+use Rattle.dulimasca.specs.Told.{Reply, packed, told_length, reply, refuse, refuse10, if_room, kind_for}
 use Rattle.dulimasca.proofs.Replying.{tells, refuses, room_there, room_short}
 use Rattle.dulimasca.proofs.Taken.{taken, not_taken}
 
 module _ (def : List ℕ) (kind : ℕ) (main slow : List ℕ) (k : ℕ) (told : List ℕ) {r : TakenDefinition} (e : r ≡ taken_definition def) where
-  pub name_no_definition : {a : ℕ} → r.is_one ≡ false → a ≡ packed 10 0 0 → NameOwes def kind main slow k told a told
+  -- that this refusal writes nothing, the function itself shows
+  pub name_no_definition : {a : ℕ} → r.is_one ≡ false → reply a [] told ≡ refuse10 [] told → NameOwes def kind main slow k told a told
   unfolding name_of
-  name_no_definition f h = refuses [] told h ∙ simp (not_taken def e f)
+  name_no_definition f h = h ∙ simp (not_taken def e f)
 
   module _ (t : r.is_one ≡ true) {w : KindFor} (g : w ≡ kind_for kind) where
     by_kind : name_by w r.definition main slow k told ≡ name_of def kind main slow k told

@@ -41,7 +41,8 @@ begins_short (b ∷ []) e h k = record { is = rw (eq-eqb b 92 e); moves = omega 
 begins_short (b ∷ c ∷ s) e h k = absurd (omega arith)
 
 -- `\` and a letter
-pub begins_letter : (s : List ℕ) → get_or s 0 0 ≡ 92 → (get_or s 1 0 ≡ 120 → ⊥) → 2 ≤ length s → {byte : Byte} → byte ≡ letter_of (get_or s 1 0) → Begins s byte 2
+pub begins_letter : (s : List ℕ) → get_or s 0 0 ≡ 92 → (get_or s 1 0 ≡ 120 → ⊥) → 2 ≤ length s
+    → {byte : Byte} → byte ≡ letter_of (get_or s 1 0) → Begins s byte 2
 unfolding bytes_of
 begins_letter [] e n h r = absurd (omega arith)
 begins_letter (b ∷ []) e n h r = absurd (omega arith)
@@ -57,7 +58,8 @@ begins_cut (b ∷ c ∷ d ∷ []) e f h k = record { is = rw (eq-eqb b 92 e, eq-
 begins_cut (b ∷ c ∷ d ∷ a ∷ s) e f h k = absurd (omega arith)
 
 -- `\x` and two digits
-pub begins_hex : (s : List ℕ) → get_or s 0 0 ≡ 92 → get_or s 1 0 ≡ 120 → 4 ≤ length s → {byte : Byte} → byte ≡ hex_of (get_or s 2 0) (get_or s 3 0) → Begins s byte 4
+pub begins_hex : (s : List ℕ) → get_or s 0 0 ≡ 92 → get_or s 1 0 ≡ 120 → 4 ≤ length s
+    → {byte : Byte} → byte ≡ hex_of (get_or s 2 0) (get_or s 3 0) → Begins s byte 4
 unfolding bytes_of
 begins_hex [] e f h r = absurd (omega arith)
 begins_hex (b ∷ []) e f h r = absurd (omega arith)

@@ -1,11 +1,12 @@
 -- `log::dulimasca_define` meets its contract: no settings, short buffers, a log that passes, one that is refused. Assumes nothing.
 use Rattle.definition.proofs.Fitting.{refusal_fits}
 use Rattle.dulimasca.proofs.Defining.{define_unchosen, define_short, define_untold, define_passed, define_refused}
+use Rattle.dulimasca.proofs.Replying.{refuses}
 use Rattle.dulimasca.proofs.log.dulimasca_define.Goals as goal
 
 pub returns-then-not-are_settings : goal.returns-then-not-are_settings
 returns-then-not-are_settings c =
-    define_unchosen _ _ _ _ c.are_settings.ensures c.if-not-are_settings.true-raw c.refuse.ensures
+    define_unchosen _ _ _ _ c.are_settings.ensures c.if-not-are_settings.true-raw (refuses _ _ c.refuse.ensures)
 
 pub returns-then-buf-lt-DEFINITION : goal.returns-then-buf-lt-DEFINITION
 returns-then-buf-lt-DEFINITION c =

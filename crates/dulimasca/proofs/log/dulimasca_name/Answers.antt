@@ -1,11 +1,12 @@
 -- `log::dulimasca_name` meets its contract: no definition, no such kind, no room for the numbers, a name, none. Assumes nothing.
 use borrow.Author.Tests.{not-true, not-false}
 use Rattle.dulimasca.proofs.Naming.{name_no_definition, name_no_kind, name_untold, name_there, name_none}
+use Rattle.dulimasca.proofs.Replying.{refuses}
 use Rattle.dulimasca.proofs.log.dulimasca_name.Goals as goal
 
 pub returns-then-not-taken : goal.returns-then-not-taken
 returns-then-not-taken c =
-    name_no_definition _ _ _ _ _ _ c.take-taken.ensures (not-true _ c.if-not-taken.true) c.refuse.ensures
+    name_no_definition _ _ _ _ _ _ c.take-taken.ensures (not-true _ c.if-not-taken.true) (refuses _ _ c.refuse.ensures)
 
 pub returns-then-not-which : goal.returns-then-not-which
 returns-then-not-which c =

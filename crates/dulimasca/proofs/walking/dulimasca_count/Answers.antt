@@ -1,11 +1,12 @@
 -- `walking::dulimasca_count` meets its contract: no definition, one that is not sound, no room for the numbers, a count. Assumes nothing.
 use borrow.Author.Tests.{not-true, not-false}
 use Rattle.dulimasca.proofs.Counting.{count_no_definition, count_unsound, count_untold, count_told}
+use Rattle.dulimasca.proofs.Replying.{refuses}
 use Rattle.dulimasca.proofs.walking.dulimasca_count.Goals as goal
 
 pub returns-then-not-taken : goal.returns-then-not-taken
 returns-then-not-taken c =
-    count_no_definition _ _ _ c.take-taken.ensures (not-true _ c.if-not-taken.true) c.refuse.ensures
+    count_no_definition _ _ _ c.take-taken.ensures (not-true _ c.if-not-taken.true) (refuses _ _ c.refuse.ensures)
 
 pub returns-then-not-is_sound : goal.returns-then-not-is_sound
 returns-then-not-is_sound c =

@@ -7,11 +7,12 @@ use lib.ListN.{length-take}
 use Rattle.dulimasca.proofs.Filling.{values_few, fill_no_definition, fill_no_kind, fill_refused, fill_untold, fill_given}
 use Rattle.section.proofs.Checks.{check_is}
 use Rattle.dulimasca.proofs.Needing.{values_named}
+use Rattle.dulimasca.proofs.Replying.{refuses}
 use Rattle.dulimasca.proofs.walking.dulimasca_fill.Goals as goal
 
 pub returns-then-not-taken : goal.returns-then-not-taken
 returns-then-not-taken c =
-    fill_no_definition _ _ _ _ _ _ c.take-taken.ensures (not-true _ c.if-not-taken.true) c.refuse.ensures
+    fill_no_definition _ _ _ _ _ _ c.take-taken.ensures (not-true _ c.if-not-taken.true) (refuses _ _ c.refuse.ensures)
 
 pub returns-then-not-which : goal.returns-then-not-which
 returns-then-not-which c =

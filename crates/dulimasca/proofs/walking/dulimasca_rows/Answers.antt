@@ -4,11 +4,12 @@ use native.Mathlib.Omega.{arith}
 use Rattle.rows.proofs.Checked.{next_check}
 use Rattle.dulimasca.proofs.Giving.{rows_no_definition, rows_no_state, rows_refused, rows_untold, rows_given}
 use Rattle.dulimasca.proofs.Needing.{row_named}
+use Rattle.dulimasca.proofs.Replying.{refuses}
 use Rattle.dulimasca.proofs.walking.dulimasca_rows.Goals as goal
 
 pub returns-then-not-taken : goal.returns-then-not-taken
 returns-then-not-taken c =
-    rows_no_definition _ _ _ _ _ c.take-taken.ensures (not-true _ c.if-not-taken.true) c.refuse.ensures
+    rows_no_definition _ _ _ _ _ c.take-taken.ensures (not-true _ c.if-not-taken.true) (refuses _ _ c.refuse.ensures)
 
 pub returns-then-not-from : goal.returns-then-not-from
 returns-then-not-from c =
