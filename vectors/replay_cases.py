@@ -14,7 +14,7 @@ RECORDED = HERE / "oracle-walks.txt"
 EXAMPLES = HERE.parent / "examples"
 
 # The examples of two flights: which of the lists in crates/cases/specs/Pairs.antt make up their sections.
-FLIGHTS = {"older-flight": ("older", "between", "tail"), "newer-flight": ("newer", "tail"), "power-cut": ("cutOff", "between", "tail")}
+FLIGHTS = {"older-flight": ("older", "between", "tail"), "newer-flight": ("newer", "tail"), "power-cut": ("cut_off", "between", "tail")}
 
 
 def example(name):
