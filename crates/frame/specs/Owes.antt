@@ -34,11 +34,11 @@ abbrev pub SlowOwes : Definition → Raw → List ℕ → Type 0
 SlowOwes d x r = r ≡ slow_values (shape d) (rules d) x
 
 -- in lent rooms: the head is handed back, and the values stand in the rooms
-abbrev pub IntraInOwes : Definition → Head → (lastValues : List ℕ) → (iteration time : ℕ) → (raws : List ℕ) → Head → (after : List ℕ) → Type 0
+abbrev pub IntraInOwes : Definition → Head → (last_values : List ℕ) → (iteration time : ℕ) → (raws : List ℕ) → Head → (after : List ℕ) → Type 0
 IntraInOwes d last lasts i t xs r after = IntraOwes d (frame_of last lasts) (raw_of i t xs) (frame_of r after)
 
 -- an inter frame's raw numbers have no iteration, so that its promise is for any
-abbrev pub InterInOwes : Definition → Head → (lastValues : List ℕ) → Head → (olderValues : List ℕ)
+abbrev pub InterInOwes : Definition → Head → (last_values : List ℕ) → Head → (older_values : List ℕ)
     → (time : ℕ) → (raws : List ℕ) → Head → (after : List ℕ) → Type 0
 InterInOwes d last lasts older olders t xs r after = (k : ℕ) → InterOwes d (frame_of last lasts) (frame_of older olders) (raw_of k t xs) (frame_of r after)
 

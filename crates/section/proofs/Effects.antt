@@ -53,16 +53,14 @@ module _ (d : Definition) (f : Found) (x : Raw) (p : ℕ) (t : Tally) (h : Histo
     accept_event e tells = tells ∙ accepted_is e
 
     module _ {m : MainFrame} {a : MainAnswer} {g : History} {n : ℕ} {after : List ℕ} where
-      -- each function shows itself that the frame is pushed, so that a wrong `history_with` is told of the function
-      pub accept_intra : f ≡ Intra → pushed h (intra_of d x h) ≡ history_with d Intra x h → frame.IntraOwes d h.last x m → n ≡ fields d.main
-          → after ≡ sets out 0 (take n m.values) → a ≡ main_answer p m → g ≡ pushed h m → r ≡ handed (outcome (answer.Intra a) [] t g) after
-          → r ≡ accepted_as f
-      unfolding answer_with fields_with past
-      accept_intra e kept made count put shown push tells =
+      pub accept_intra : f ≡ Intra → frame.IntraOwes d h.last x m → n ≡ fields d.main → after ≡ sets out 0 (take n m.values) → a ≡ main_answer p m
+          → g ≡ pushed h m → r ≡ handed (outcome (answer.Intra a) [] t g) after → r ≡ accepted_as f
+      unfolding answer_with fields_with history_with past
+      accept_intra e made count put shown push tells =
           let is = made (body_of h.older) in
           tells
           ∙ hands t (take (fields d.main) (intra_of d x h).values) out (ap answer.Intra shown ∙ ap (λ m. answer.Intra (main_answer p m)) is)
-          (push ∙ ap (pushed h) is ∙ kept) (put ∙ (λ i. sets out 0 (take (count i) (is i).values)))
+          (push ∙ ap (pushed h) is) (put ∙ (λ i. sets out 0 (take (count i) (is i).values)))
           ∙ accepted_is e
 
       pub accept_inter : f ≡ Inter → frame.InterOwes d h.last h.older x m → n ≡ fields d.main → after ≡ sets out 0 (take n m.values)

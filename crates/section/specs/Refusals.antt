@@ -38,6 +38,6 @@ larger a b = cond (ltb a b) b a
 unfoldable pub needed : Definition → ℕ
 needed d = larger (fields d.main) d.slow.n
 
--- 10 comes before 11 (`refusalFor`, in Answers.antt, is the same in numbers)
+-- 10 comes before 11 (`refusal_for`, in Answers.antt, is the same in numbers)
 unfoldable pub checked : Definition → Walk → (length room : ℕ) → Check
 checked d w z room = cond (admitted d z w) (cond (leb (needed d) room) Pass (Refused (TooShort (needed d)))) (Refused Unsound)

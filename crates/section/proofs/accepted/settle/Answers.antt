@@ -2,8 +2,6 @@
 -- Assumes rooms for every field, and a buffer of so many places for them.
 use native.Mathlib.Omega.{arith}
 use lib.ListN.{length-take}
-use mathlib.Core.Path.{refl}
-use Rattle.section.specs.Walk.{history_with}
 use Rattle.section.proofs.Effects.{accept_event, accept_intra, accept_inter, accept_slow}
 use Rattle.section.proofs.Rooms.{intra_rooms, inter_rooms, slow_rooms}
 use Rattle.section.proofs.accepted.settle.Goals as goal
@@ -30,9 +28,8 @@ pub returns-in-Event : goal.returns-in-Event
 returns-in-Event c = accept_event _ _ _ _ _ _ _ c.in-Event.is (c.looked.ensures _)
 
 pub returns-in-Intra : goal.returns-in-Intra
-unfolding history_with
 returns-in-Intra c =
-    accept_intra _ _ _ _ _ _ _ c.in-Intra.is refl c.intra-main.ensures c.fields-n.ensures
+    accept_intra _ _ _ _ _ _ _ c.in-Intra.is c.intra-main.ensures c.fields-n.ensures
     c.put.ensures c.shown.ensures c.pushed.ensures (c.looked-in-Intra.ensures _)
 
 pub returns-in-Inter : goal.returns-in-Inter

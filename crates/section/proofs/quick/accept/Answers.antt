@@ -1,6 +1,5 @@
 -- `section::quick::accept` meets its contract: the answer, the fields and the history of each kind of frame. It requires rooms for every field.
 use mathlib.Core.Path.{refl}
-use Rattle.section.specs.Walk.{history_with}
 use Rattle.section.proofs.Effects.{accept_event, accept_intra, accept_inter, accept_slow}
 use Rattle.section.proofs.Lent.{settled_tells, still_tells, push_parts}
 use Rattle.section.proofs.Padded.{intra_padded, inter_padded, slow_padded}
@@ -11,9 +10,8 @@ returns-in-Event c =
     accept_event _ _ _ _ _ _ _ c.in-Event.is (still_tells _ _ c.still.ensures)
 
 pub returns-in-Intra : goal.returns-in-Intra
-unfolding history_with
 returns-in-Intra c =
-    accept_intra _ _ _ _ _ _ _ c.in-Intra.is refl c.intra_in-head.ensures refl (intra_padded _ _ _ c.intra_in-head.ensures c.requires.main)
+    accept_intra _ _ _ _ _ _ _ c.in-Intra.is c.intra_in-head.ensures refl (intra_padded _ _ _ c.intra_in-head.ensures c.requires.main)
     c.shown.ensures (push_parts _ _ _ _ _ c.pushed.ensures c.push_values.ensures) (settled_tells _ _ _ c.light_with.ensures)
 
 pub returns-in-Inter : goal.returns-in-Inter
