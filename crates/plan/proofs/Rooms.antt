@@ -34,7 +34,7 @@ pub record MainRooms (m : Main) : Type 0 where
   pub inter_encodings : length m.inter_encodings ≡ 62
   pub signs : length m.signs ≡ 62
 
--- `c.good` has such a part for each parameter
+-- `c.well_formed` has such a part for each parameter
 pub main_rooms : (m : Main) {vs : List Val} → Is (declared.row main.the_type) m vs → MainRooms m
 main_rooms m g =
     record {

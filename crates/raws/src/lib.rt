@@ -25,7 +25,7 @@ pub struct Raw {
     pub fields: [u32; 62],
 }
 
-// Where reading goes on, or why it does not: then every number is 0. An enum holds no array, so the numbers stand beside it.
+// Where reading goes on, or why it does not: then every number is 0. The numbers stand beside it.
 #[derive(Clone, Copy)]
 pub struct Reading {
     pub step: Step,

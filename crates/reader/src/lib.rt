@@ -39,7 +39,7 @@ pub enum Step {
     Corrupt,
 }
 
-// The numbers of a group, as 32-bit patterns, and zeros behind them. An enum holds no array, so they stand beside it.
+// The numbers of a group, as 32-bit patterns, and zeros behind them. They stand beside the step, whatever it is.
 #[derive(Clone, Copy)]
 pub struct Group {
     pub step: Step,

@@ -47,7 +47,7 @@ pub record DefinitionSized (d : Definition) : Type 0 where
   pub least : NumberSized d.numbers.min_motor
   pub settings : SettingsSized d.settings
 
--- ## What owning a definition tells: `c.good` has such a part for each parameter
+-- ## What owning a definition tells: `c.well_formed` has such a part for each parameter
 
 number_sized : (x : HeaderNumber) {vs : List Val} → Is (enum.row header.the_type) x vs → NumberSized x
 number_sized Absent g = tt

@@ -1,7 +1,7 @@
 // Standard input for the programs: all of it, as far as a buffer of the program's has room.
 #![tactic(auto)]
 
-ghost use Rattle.std.specs.Prelude.{◌≡◌, ◌<◌, length, take, IfOk};
+ghost use Rattle.std.specs.Prelude.{◌≡◌, ◌<◌, length, take, IfOk, EachIndex, slice_index};
 ghost use Rattle.std.specs.Io.{ReadsAtMost};
 ghost use Rattle.std.specs.Io.KnownBytes.{Consumes, IsAtEnd};
 
@@ -10,7 +10,8 @@ use std::io::Read;
 
 // 65,536 zeros. The ensures keeps the prover from counting them where the buffer is lent.
 pub fn large_buffer() -> [u8; 65536]
-    ensures { 65536 ≡ length result }
+    ensures room { 65536 ≡ length result }
+    ensures zeros { EachIndex result (λ k. slice_index result k ≡ 0) }
 {
     [0u8; 65536]
 }

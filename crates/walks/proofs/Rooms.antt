@@ -8,6 +8,6 @@ use lib.ListN.{length}
 use Rattle.walks.specs.declared.Reached.{Reached}
 use Rattle.walks.specs.contracts.Reached as reached
 
--- `c.walk_to-r.type_inv` tells it
+-- `c.walk_to-reached.type_inv` tells it
 pub reached_values : (r : Reached) {vs : List Val} → Is (declared.row reached.the_type) r vs → length r.values ≡ 62
 reached_values r g = g.1.1.1.0.1.0.1
