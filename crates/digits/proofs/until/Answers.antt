@@ -13,5 +13,6 @@ pub returns : goal.returns
 unfolding before
 returns c =
     let s = c.args.s.now in
-    let found = position_from_yields_List (λ x. eqb x c.args.b) _ _ c.position.result c.position.ensures.ran (YieldsList-from_slice s cc) (λ x b q k. search (rules, tests)) in
+    let found = position_from_yields_List (λ x. eqb x c.args.b) _ _ c.position.result c.position.ensures.ran (YieldsList-from_slice s cc)
+    (λ x b q k. search (rules, tests)) in
     c.unwrap_or.ensures ∙ place_or_end _ s found
