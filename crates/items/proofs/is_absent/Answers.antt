@@ -1,11 +1,6 @@
--- `items::is_absent` meets its contract, by the two cases of a stretch. Assumes nothing.
-use Rattle.items.specs.Items.{absent}
+-- `items::is_absent` meets its contract: the library's test is the definition's. Assumes nothing.
+use Rattle.items.proofs.Items.{absent_is}
 use Rattle.items.proofs.is_absent.Goals as goal
 
-pub returns-in-At : goal.returns-in-At
-unfolding absent
-returns-in-At c = rw c.in-At.is
-
-pub returns-in-Absent : goal.returns-in-Absent
-unfolding absent
-returns-in-Absent c = rw c.in-Absent.is
+pub returns : goal.returns
+returns c = absent_is _ c.is_none.ensures

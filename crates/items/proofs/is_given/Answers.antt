@@ -1,21 +1,7 @@
--- `items::is_given` meets its contract, by the tests that led to each answer. Assumes nothing.
-use borrow.Author.Rules.{rules}
-use borrow.Author.Tests.{le-leb, lt-leb}
-use Rattle.items.specs.Items.{given}
+-- `items::is_given` meets its contract: a stretch is given if it has bytes. Assumes nothing.
+use mathlib.Core.Path.{◌∙◌}
+use Rattle.items.proofs.Items.{given_by}
 use Rattle.items.proofs.is_given.Goals as goal
 
-pub enum_known-s : goal.enum_known-s
-unfolding given
-enum_known-s c = search rules
-
-pub returns-then-start-end : goal.returns-then-start-end
-unfolding given
-returns-then-start-end c = rw (c.in-At.is, le-leb _ _ c.if-start-end.true)
-
-pub returns-else-start-end : goal.returns-else-start-end
-unfolding given
-returns-else-start-end c = rw (c.in-At.is, lt-leb _ _ c.if-start-end.false)
-
-pub returns-in-Absent : goal.returns-in-Absent
-unfolding given
-returns-in-Absent c = rw c.in-Absent.is
+pub returns : goal.returns
+returns c = c.is_some.ensures ∙ given_by _ _ c.bytes.result c.bytes.ensures
