@@ -152,11 +152,6 @@ item_part t k =
 
 -- ## The bytes of a stretch
 
-pub absent_is : (s : Option Stretch) {r : Bool} → is_some s ≡ not r → r ≡ absent s
-unfolding absent
-absent_is None {r} e = grind arith
-absent_is (Some s) {r} e = grind arith
-
 -- what the code finds behind a stretch: no bytes just if it is not given
 abbrev pub Bytes : List ℕ → Option Stretch → Option (Bor (List ℕ)) → Type 0
 Bytes text s r = MatchOption r (given text s ≡ false) (λ b. (given text s ≡ true) × (b.now ≡ part text s))

@@ -1,5 +1,6 @@
 -- The items of a comma-separated text (document 01, "Definition lists"), and where each stands.
 use Rattle.std.specs.Prelude.{ℕ, zero, suc, ◌+◌, ◌-◌, Bool, true, false, cond, ◌&&◌, List, [], ◌∷◌, Option, Some, None, eqb, ltb, leb, length, get_or, take, drop}
+use Rattle.std.specs.Option.{is_none}
 use Rattle.items.specs.declared.Stretch.{Stretch}
 
 -- a byte in front of the first item; there always is one
@@ -31,8 +32,7 @@ item_at text k =
 
 -- a stretch is absent if there is none, whatever the text
 unfoldable pub absent : Option Stretch → Bool
-absent None = true
-absent (Some s) = false
+absent s = is_none s
 
 -- a stretch is given if there is one and it lies in the text
 unfoldable pub given : List ℕ → Option Stretch → Bool

@@ -1,5 +1,6 @@
 -- What a single item says (document 01, "Definition lists").
 use Rattle.std.specs.Prelude.{ℕ, ◌+◌, ◌/◌, ◌%◌, Bool, true, false, cond, ◌&&◌, ◌||◌, List, [], ◌∷◌, Option, Some, None, eqb, ltb, leb}
+use Rattle.std.specs.Option.{is_none, unwrap_or}
 use Rattle.plan.specs.Known.{predictors, encodings}
 use Rattle.items.specs.Text.{ascii, same}
 
@@ -22,13 +23,11 @@ encoding_of item = number_among encodings item
 
 -- an item that is none of them
 abbrev pub unknown : Option ℕ → Bool
-unknown None = true
-unknown (Some n) = false
+unknown o = is_none o
 
 -- as a definition's byte: the number itself; 255 stands for an unknown item
 abbrev pub numbered : Option ℕ → ℕ
-numbered None = 255
-numbered (Some n) = n
+numbered o = unwrap_or o 255
 
 -- bytes 9 to 13 and 32
 unfoldable pub blank : ℕ → Bool

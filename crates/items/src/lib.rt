@@ -135,6 +135,7 @@ pub fn item_at(text: &[u8], k: usize) -> Option<Stretch>
 }
 
 // Whether there is no stretch: one that does not lie in its text is none that is absent.
+#[tactic(auto, unfolding(crate::specs::Items::absent))]
 pub fn is_absent(s: Option<Stretch>) -> bool
     ensures { IsAbsentOwes s result }
 {
@@ -142,6 +143,7 @@ pub fn is_absent(s: Option<Stretch>) -> bool
 }
 
 // The bytes from a stretch's first to behind its last, if it lies in the text.
+#[tactic(auto, using(crate::proofs::Items::no_bytes, crate::proofs::Items::bytes_of))]
 fn bytes<'a>(text: &'a [u8], s: Option<Stretch>) -> Option<&'a [u8]>
     ensures { MatchOption result (given text.now s ≡ false) (λ b. (given text.now s ≡ true) × (b.now ≡ part text.now s)) }
 {
@@ -150,6 +152,7 @@ fn bytes<'a>(text: &'a [u8], s: Option<Stretch>) -> Option<&'a [u8]>
 }
 
 // Whether a stretch is there and lies in the text.
+#[tactic(auto, using(crate::proofs::Items::given_by))]
 pub fn is_given(text: &[u8], s: Option<Stretch>) -> bool
     ensures { IsGivenOwes text.now s result }
 {
@@ -157,6 +160,7 @@ pub fn is_given(text: &[u8], s: Option<Stretch>) -> bool
 }
 
 // The bytes of a stretch that is given, and none for any other.
+#[tactic(auto, using(crate::proofs::Items::part_by))]
 pub fn part<'a>(text: &'a [u8], s: Option<Stretch>) -> &'a [u8]
     ensures { PartOwes text.now s result.now }
 {
