@@ -3,6 +3,4 @@ use Rattle.octets.proofs.Loads.{take_long}
 use Rattle.octets.proofs.take64.Goals as goal
 
 pub returns : goal.returns
-returns c =
-    let a = c.args in
-    take_long a.buf.now a.at c.take32.ensures c.wide64.ensures.0 c.take32-2.ensures c.wide64-2.ensures.0
+returns c = take_long c.args.buf.now c.args.at c.take32.ensures c.from.ensures c.take32-2.ensures c.from-2.ensures
