@@ -8,6 +8,7 @@ ghost use Rattle.std.proofs.lemmas.List.Edits.{sets};
 ghost use Rattle.octets.specs.Bytes.{le32, le64, num32, num64, nums};
 ghost use Rattle.octets.specs.Widths.{length_le32, length_le64};
 
+#[tactic(auto, using(crate::proofs::Stores::written, crate::proofs::Stores::le32_is))]
 pub fn put32(buf: &mut [u8], at: usize, v: u32)
     requires { at + 4 ≤ length buf.old }
     ensures { buf.new ≡ sets buf.old at (le32 v) }
@@ -15,6 +16,7 @@ pub fn put32(buf: &mut [u8], at: usize, v: u32)
     buf[at..at + 4].copy_from_slice(&v.to_le_bytes());
 }
 
+#[tactic(auto, using(crate::proofs::Loads::num_at))]
 pub fn take32(buf: &[u8], at: usize) -> u32
     requires { at + 4 ≤ length buf.now }
     ensures { result ≡ num32 (drop at buf.now) }
@@ -22,6 +24,7 @@ pub fn take32(buf: &[u8], at: usize) -> u32
     u32::from_le_bytes([buf[at], buf[at + 1], buf[at + 2], buf[at + 3]])
 }
 
+#[tactic(auto, using(crate::proofs::Stores::written, crate::proofs::Stores::le64_is))]
 pub fn put64(buf: &mut [u8], at: usize, v: u64)
     requires { at + 8 ≤ length buf.old }
     ensures { buf.new ≡ sets buf.old at (le64 v) }
@@ -29,6 +32,7 @@ pub fn put64(buf: &mut [u8], at: usize, v: u64)
     buf[at..at + 8].copy_from_slice(&v.to_le_bytes());
 }
 
+#[tactic(auto, using(crate::proofs::Loads::take_long))]
 pub fn take64(buf: &[u8], at: usize) -> u64
     requires { at + 8 ≤ length buf.now }
     ensures { result ≡ num64 (drop at buf.now) }
@@ -99,6 +103,7 @@ pub fn take_values(buf: &[u8], at: usize, values: &mut [u32])
     }
 }
 
+#[tactic(auto, using(crate::proofs::Stores::written))]
 pub fn put_bytes(buf: &mut [u8], at: usize, bytes: &[u8])
     requires { at + length bytes.now ≤ length buf.old }
     ensures { buf.new ≡ sets buf.old at bytes.now }
