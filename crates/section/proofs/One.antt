@@ -9,7 +9,6 @@ use Rattle.extent.specs.declared.Glance.{Glance}
 use Rattle.extent.specs.declared.Look.{Look}
 use Rattle.extent.specs.declared.Seen.{Seen}
 use Rattle.section.specs.declared.Answer.{Answer}
-use Rattle.section.specs.declared.Check.{Check}
 use Rattle.section.specs.declared.Looked.{Looked}
 use Rattle.section.specs.declared.quick.Light.{Light}
 use Rattle.section.specs.declared.quick.Settled.{Settled}
@@ -18,8 +17,9 @@ use Rattle.section.specs.declared.Tally.{Tally}
 use Rattle.section.specs.declared.Walk.{Walk}
 use Rattle.section.specs.Answers.{Told, told}
 use Rattle.section.specs.Lent.{light_of, walk_of}
-use Rattle.section.specs.Owes.{IsOverOwes, StartOwes, AdmitsOwes, RoomNeededOwes, CheckOwes, PutOwes, RefusedOwes}
-use Rattle.section.specs.Owes.{OverOwes, AfterOwes, SettleOwes, LightOwes, WithOwes, SettleInOwes, LookOwes}
+use Rattle.section.specs.Refusals.{Check}
+use Rattle.section.specs.Owes.{IsOverOwes, StartOwes, AdmitsOwes, RoomNeededOwes, CheckOwes, PutOwes, FieldsOfOwes, RefusedOwes}
+use Rattle.section.specs.Owes.{OverOwes, AfterOwes, SettleOwes, LightOwes, WithOwes, HandOutOwes, SettleInOwes, LookOwes}
 use Rattle.section.proofs.Paper.{paper_injective, found_injective}
 
 -- what is told says the answer and the buffer
@@ -46,6 +46,9 @@ check_one d w z room {r} {t} p q = found_injective r t (one_answer p q)
 pub put_one : (values out : List ℕ) {a b : List ℕ} → PutOwes values out a → PutOwes values out b → a ≡ b
 put_one values out = one_answer
 
+pub fields_of_one : (d : Definition) (answer : Answer) {r t : ℕ} → FieldsOfOwes d answer r → FieldsOfOwes d answer t → r ≡ t
+fields_of_one d answer = one_answer
+
 pub refused_one : (why : Refusal) (w : Walk) (r t : Looked) → RefusedOwes why w r → RefusedOwes why w t → r ≡ t
 refused_one why w r t p q = (told_one r t [] [] (one_answer (p []) (q []))).0
 
@@ -65,6 +68,10 @@ light_one w = one_answer
 
 pub with_one : (w : Light) (last older : List ℕ) {r t : Walk} → WithOwes w last older r → WithOwes w last older t → r ≡ t
 with_one w last older = one_answer
+
+pub hand_out_one : (d : Definition) (x : Settled) (last older values out : List ℕ) (r t : Looked) (a b : List ℕ)
+    → HandOutOwes d x last older values out r a → HandOutOwes d x last older values out t b → (r ≡ t) × (a ≡ b)
+hand_out_one d x last older values out r t a b p q = told_one r t a b (one_answer p q)
 
 -- the walk in parts
 pub parts_one : {w v : Light} {a b a' b' : List ℕ} → walk_of w a b ≡ walk_of v a' b' → (w ≡ v) × (a ≡ a') × (b ≡ b')

@@ -1,5 +1,5 @@
 -- What each public function of this crate owes.
-use Rattle.std.specs.Prelude.{ℕ, Bool, List, ◌≡◌, length, replicate}
+use Rattle.std.specs.Prelude.{ℕ, Bool, List, ◌≡◌, length, take, replicate}
 use Rattle.std.proofs.lemmas.List.Edits.{sets}
 use Rattle.plan.specs.declared.Definition.{Definition}
 use Rattle.extent.specs.declared.Glance.{Glance}
@@ -7,16 +7,15 @@ use Rattle.extent.specs.declared.Look.{Look}
 use Rattle.extent.specs.declared.Seen.{Seen}
 use Rattle.extent.specs.Sight.{beside}
 use Rattle.section.specs.declared.Answer.{Answer}
-use Rattle.section.specs.declared.Check.{Check}
 use Rattle.section.specs.declared.Looked.{Looked}
 use Rattle.section.specs.declared.quick.Light.{Light}
 use Rattle.section.specs.declared.quick.Settled.{Settled}
 use Rattle.section.specs.declared.Refusal.{Refusal}
 use Rattle.section.specs.declared.Tally.{Tally}
 use Rattle.section.specs.declared.Walk.{Walk}
-use Rattle.section.specs.Answers.{found, refusal_for, is_over, told, handed, Tells, refusing, checked_first}
+use Rattle.section.specs.Answers.{found, refusal_for, is_over, hands_out, told, handed, Tells, refusing, checked_first}
 use Rattle.section.specs.Lent.{light_of, walk_of, told_beside}
-use Rattle.section.specs.Refusals.{admitted, needed, checked}
+use Rattle.section.specs.Refusals.{Check, admitted, needed, checked}
 use Rattle.section.specs.Tally.{tally_after}
 use Rattle.section.specs.Walk.{start, settled, over, tick}
 
@@ -37,6 +36,9 @@ CheckOwes d w z room r = found r ≡ refusal_for (needed d) d w z room
 
 abbrev pub PutOwes : (values out after : List ℕ) → Type 0
 PutOwes values out after = after ≡ sets out 0 values
+
+abbrev pub FieldsOfOwes : Definition → Answer → ℕ → Type 0
+FieldsOfOwes d answer r = r ≡ hands_out d answer
 
 abbrev pub RefusedOwes : Refusal → Walk → Looked → Type 0
 RefusedOwes why w r = (out : List ℕ) → told r out ≡ refusing why w out
@@ -62,6 +64,10 @@ abbrev pub SettleInOwes : Definition → Light → Glance → (raws : List ℕ) 
     → (last older : List ℕ) → Settled → (last' older' values : List ℕ) → Type 0
 SettleInOwes d w g raws z last older r last' older' values =
     told_beside r last' older' values ≡ handed (settled d (beside g raws) z (walk_of w last older)) (replicate 62 0)
+
+-- the whole walk with its values, and of the rooms `values` as many as the answer hands out in a buffer
+abbrev pub HandOutOwes : Definition → Settled → (last older values out : List ℕ) → Looked → (after : List ℕ) → Type 0
+HandOutOwes d x last older values out r after = told r after ≡ told_beside x last older (sets out 0 (take (hands_out d x.answer) values))
 
 -- one look at a section, and a buffer before and after it
 abbrev pub LookOwes : Definition → Walk → List ℕ → (out : List ℕ) → Looked → (after : List ℕ) → Type 0

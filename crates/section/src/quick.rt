@@ -1,15 +1,16 @@
 // What a look does to a walk whose values stand in lent rooms: the faster form of `settle`, for whole walks.
 // Only small structs go by value, so that nothing is copied but the values of an accepted main frame. The fields go to lent rooms too, 0 behind the last.
-ghost use Rattle.std.specs.Prelude.{◌≡◌, replicate};
+ghost use Rattle.std.specs.Prelude.{◌≡◌, length, replicate};
 ghost use Rattle.extent.specs.Sight.{beside};
 ghost use Rattle.frame.specs.Parts.{raw_of};
 ghost use Rattle.history.specs.Parts.{history_of};
 ghost use Rattle.section.specs.Answers.{handed};
 ghost use Rattle.section.specs.Fits.{Fits, Rooms};
 ghost use Rattle.section.specs.Lent.{told_beside, walk_of, light_of};
+ghost use Rattle.section.specs.Owes.{HandOutOwes};
 ghost use Rattle.section.specs.Walk.{answer_with, fields_with, history_with, outcome, settled};
 
-use crate::{Answer, Ending, EventAnswer, MainAnswer, SlowAnswer, Tally, Walk};
+use crate::{Answer, Ending, EventAnswer, Looked, MainAnswer, SlowAnswer, Tally, Walk};
 use extent::{Found, Glance, Seen};
 use frame::Head;
 use history::Heads;
@@ -52,6 +53,32 @@ impl Walk {
         Light {
             tally,
             heads: history.heads(),
+        }
+    }
+}
+
+impl Settled {
+    // With the values: the whole walk. Its fields go to the lent buffer.
+    pub fn hand_out(
+        self,
+        d: Definition,
+        last: [u32; 62],
+        older: [u32; 62],
+        values: &[u32; 62],
+        out: &mut [u32],
+    ) -> Looked
+        requires { Rooms d (length out.old) }
+        ensures { HandOutOwes d self last older values.now out.old result out.new }
+    {
+        let answer = self.answer;
+        let walk = self.walk;
+        let tally = walk.tally;
+        let n = crate::fields_of(d, answer);
+        crate::put(&values[..n], out);
+        Looked {
+            answer,
+            trials: tally.trials,
+            walk: walk.with(last, older),
         }
     }
 }
