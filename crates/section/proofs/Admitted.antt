@@ -1,13 +1,12 @@
 -- What is known of an admitted walk and its definition, and what makes one.
 use Prim.Native.Nat.{ℕ, zero, suc, ◌+◌, ◌≤◌}
-use mathlib.Core.Bool.{Bool, true, false, cond, ◌&&◌, and-eq-true_iff}
-use mathlib.Core.Path.{◌≡◌, refl, sym, ◌∙◌}
+use mathlib.Core.Bool.{true, ◌&&◌, and-eq-true_iff}
+use mathlib.Core.Path.{◌≡◌, sym, ◌∙◌}
 use native.Mathlib.Omega.{arith}
-use lib.Dec.{eqb, ltb, leb}
+use lib.Dec.{eqb, leb}
 use lib.ListN.{length, get_or, get_or-eq_default}
-use borrow.Author.Tests.{eq-eqb, eqb-true, le-leb, leb-true, ltb-true, ltb-false}
+use borrow.Author.Tests.{eq-eqb, eqb-true, le-leb, leb-true}
 use Rattle.plan.specs.declared.Definition.{Definition}
-use Rattle.plan.specs.Plan.{fields}
 use Rattle.plan.specs.Sound.{sound}
 use Rattle.plan.proofs.Sound.{main_fields, slow_fields_law, sound_main_law, sound_slow_law}
 use Rattle.history.specs.History as history

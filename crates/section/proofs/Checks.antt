@@ -1,13 +1,12 @@
 -- The checks by the ways through the code: what is tested first decides.
 use Prim.Native.Nat.{ℕ, ◌≤◌, ◌<◌}
-use Rattle.std.specs.Prelude.{None, Some, Ok, Err}
+use Rattle.std.specs.Prelude.{None, Some, Err}
 use mathlib.Core.Bool.{Bool, true, false, not, cond, ◌&&◌}
-use mathlib.Core.Path.{◌≡◌, refl, sym, ap, ◌∙◌}
+use mathlib.Core.Path.{◌≡◌, refl, sym, ◌∙◌}
 use native.Mathlib.Omega.{arith}
-use lib.Dec.{eqb, ltb, leb}
-use borrow.Author.Tests.{lt-ltb, le-ltb, le-leb, lt-leb, leb-true, not-true, not-false}
+use lib.Dec.{eqb, leb}
+use borrow.Author.Tests.{le-leb, lt-leb, leb-true, not-true, not-false}
 use Rattle.plan.specs.declared.Definition.{Definition}
-use Rattle.plan.specs.Plan.{fields}
 use Rattle.plan.specs.Sound.{sound}
 use Rattle.history.specs.History as history
 use Rattle.section.specs.declared.Refusal.TheVariants.{Unsound, TooShort}

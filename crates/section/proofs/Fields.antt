@@ -1,9 +1,9 @@
 -- The fields of an outcome: as many as its answer hands out, at most 62, and what a buffer then begins with.
 use Prim.Native.Nat.{ℕ, ◌+◌, ◌≤◌}
 use mathlib.Core.Bool.{true}
-use mathlib.Core.List.{List, []}
+use mathlib.Core.List.{List}
 use mathlib.Core.Option.{none}
-use mathlib.Core.Path.{◌≡◌, refl, sym, ap, ◌∙◌}
+use mathlib.Core.Path.{◌≡◌, refl, ap, ◌∙◌}
 use native.Mathlib.Omega.{arith}
 use lib.ListN.{length, take, drop, replicate, length-replicate}
 use lib.Seq.{sets, sets-eq, length-sets, length-take-le, take-append_seam}
@@ -26,6 +26,7 @@ use Rattle.section.specs.declared.Answer.{Answer}
 use Rattle.section.specs.declared.Answer.TheVariants.{Passed, Rejected, Event, Intra, Inter, Slow, Over, Refused}
 use Rattle.section.specs.declared.Looked.{Looked}
 use Rattle.section.specs.declared.quick.Settled.{Settled}
+use Rattle.section.specs.declared.quick.Values.{Values}
 use Rattle.section.specs.declared.Walk.{Walk}
 use Rattle.section.specs.Answers.{Told, told, handed, hands_out}
 use Rattle.section.specs.Fits.{Rooms}
@@ -103,14 +104,14 @@ module _ (d : Definition) {room : ℕ} (rooms : Rooms d room) where
   roomy_full s w = tick_by d s (Full d) w (λ _. settled_full (look (shape d) (drop w.tally.place s)) (length s) w) (λ _. over_full w)
 
   -- an outcome in 62 rooms, handed out to a buffer
-  pub handed_out : (o : Outcome) → Full d o → (x : Settled) {last older values : List ℕ} → told_beside x last older values ≡ handed o (replicate 62 0)
-      → (out : List ℕ) (r : Looked) {after : List ℕ} → HandOutOwes d x last older values out r after → told r after ≡ handed o out
+  pub handed_out : (o : Outcome) → Full d o → (x : Settled) (v : Values) → told_beside x v ≡ handed o (replicate 62 0)
+      → (out : List ℕ) (r : Looked) {after : List ℕ} → HandOutOwes d x v out r after → told r after ≡ handed o out
   unfolding handed
-  handed_out o full x {last} {older} {values} e out r owes =
+  handed_out o full x v e out r owes =
       let answer : x.answer ≡ o.answer = paper_injective x.answer o.answer (ap (λ (t : Told). t.said) e) in
-      let there : values ≡ sets (replicate 62 0) 0 o.fields = ap (λ (t : Told). t.out) e in
+      let there : v.fields ≡ sets (replicate 62 0) 0 o.fields = ap (λ (t : Told). t.out) e in
       let begins = begins_with d o (replicate 62 0) full (omega (arith, hands_out_rooms d most o.answer, length-replicate {A = ℕ} 62 0)) in
-      let put : take (hands_out d x.answer) values ≡ o.fields = (λ i. take (hands_out d (answer i)) (there i)) ∙ begins in
+      let put : take (hands_out d x.answer) v.fields ≡ o.fields = (λ i. take (hands_out d (answer i)) (there i)) ∙ begins in
       owes ∙ (λ i. record { said = (e i).said; trials = (e i).trials; walk = (e i).walk; out = sets out 0 (put i) })
 
 -- ## Under a sound definition

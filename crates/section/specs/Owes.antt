@@ -10,11 +10,12 @@ use Rattle.section.specs.declared.Answer.{Answer}
 use Rattle.section.specs.declared.Looked.{Looked}
 use Rattle.section.specs.declared.quick.Light.{Light}
 use Rattle.section.specs.declared.quick.Settled.{Settled}
+use Rattle.section.specs.declared.quick.Values.{Values}
 use Rattle.section.specs.declared.Refusal.{Refusal}
 use Rattle.section.specs.declared.Tally.{Tally}
 use Rattle.section.specs.declared.Walk.{Walk}
-use Rattle.section.specs.Answers.{found, refusal_for, is_over, hands_out, told, handed, Tells, refusing, checked_first}
-use Rattle.section.specs.Lent.{light_of, walk_of, told_beside}
+use Rattle.section.specs.Answers.{found, refusal_for, is_over, paper_of, hands_out, told, handed, Tells, refusing, checked_first}
+use Rattle.section.specs.Lent.{light_of, values_of, walk_of, told_beside}
 use Rattle.section.specs.Refusals.{Check, admitted, needed, checked}
 use Rattle.section.specs.Tally.{tally_after}
 use Rattle.section.specs.Walk.{start, settled, over, tick}
@@ -53,21 +54,23 @@ AfterOwes t x z r = r ≡ tally_after x z t
 abbrev pub SettleOwes : Definition → Walk → Look → (length : ℕ) → (out : List ℕ) → Looked → (after : List ℕ) → Type 0
 SettleOwes d w l z out r after = told r after ≡ handed (settled d l z w) out
 
--- in lent rooms: a walk in parts, and what a look does to it; the rooms `values` hold the fields, and 0 behind the last, whatever they held before
+-- in lent rooms: a walk in parts, and what a look does to it; the rooms for the fields hold them, and 0 behind the last, whatever they held before
 abbrev pub LightOwes : Walk → Light → Type 0
 LightOwes w r = r ≡ light_of w
 
-abbrev pub WithOwes : Light → (last older : List ℕ) → Walk → Type 0
-WithOwes w last older r = r ≡ walk_of w last older
+abbrev pub ValuesOwes : Walk → Values → Type 0
+ValuesOwes w r = r ≡ values_of w
 
-abbrev pub SettleInOwes : Definition → Light → Glance → (raws : List ℕ) → (length : ℕ)
-    → (last older : List ℕ) → Settled → (last' older' values : List ℕ) → Type 0
-SettleInOwes d w g raws z last older r last' older' values =
-    told_beside r last' older' values ≡ handed (settled d (beside g raws) z (walk_of w last older)) (replicate 62 0)
+abbrev pub WithOwes : Light → Values → Walk → Type 0
+WithOwes w v r = r ≡ walk_of w v
 
--- the whole walk with its values, and of the rooms `values` as many as the answer hands out in a buffer
-abbrev pub HandOutOwes : Definition → Settled → (last older values out : List ℕ) → Looked → (after : List ℕ) → Type 0
-HandOutOwes d x last older values out r after = told r after ≡ told_beside x last older (sets out 0 (take (hands_out d x.answer) values))
+abbrev pub SettleInOwes : Definition → Light → Glance → (raws : List ℕ) → (length : ℕ) → Values → Settled → (after : Values) → Type 0
+SettleInOwes d w g raws z v r after = told_beside r after ≡ handed (settled d (beside g raws) z (walk_of w v)) (replicate 62 0)
+
+-- the whole walk with its values, and of its fields as many as the answer hands out in a buffer
+abbrev pub HandOutOwes : Definition → Settled → Values → (out : List ℕ) → Looked → (after : List ℕ) → Type 0
+HandOutOwes d x v out r after =
+    told r after ≡ record { said = paper_of x.answer; trials = x.walk.tally.trials; walk = walk_of x.walk v; out = sets out 0 (take (hands_out d x.answer) v.fields) }
 
 -- one look at a section, and a buffer before and after it
 abbrev pub LookOwes : Definition → Walk → List ℕ → (out : List ℕ) → Looked → (after : List ℕ) → Type 0

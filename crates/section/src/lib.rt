@@ -167,28 +167,15 @@ pub fn settle(d: Definition, w: Walk, l: Look, length: usize, out: &mut [u32]) -
     requires { Fits w.tally l.seen length × Rooms d (ListN.length out.old) }
     ensures { SettleOwes d w l length out.old result out.new }
 {
-    let history = w.history;
-    let mut last = history.last.values;
-    let mut older = history.older.values;
-    let mut values = [0u32; 62];
     let raw = l.raw;
     let glance = Glance {
         seen: l.seen,
         iteration: raw.iteration,
         time: raw.time,
     };
-    let fields = raw.fields;
-    let settled = quick::settle_in(
-        d,
-        w.light(),
-        glance,
-        &fields,
-        length,
-        &mut last,
-        &mut older,
-        &mut values,
-    );
-    settled.hand_out(d, last, older, &values, out)
+    let mut values = w.values();
+    let settled = quick::settle_in(d, w.light(), glance, &raw.fields, length, &mut values);
+    settled.hand_out(d, &values, out)
 }
 
 // A look from an admitted walk.

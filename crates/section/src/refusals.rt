@@ -10,7 +10,11 @@ use plan::Definition;
 fn cut_trials(ending: Ending) -> usize
     ensures { result ≡ cuts ending }
 {
-    if matches!(ending, Ending::Cut(_, _)) { 1 } else { 0 }
+    if matches!(ending, Ending::Cut(_, _)) {
+        1
+    } else {
+        0
+    }
 }
 
 // Whether the trials are the sum of their parts. The parts are taken off one by one: their sum need not be a number of 64 bits.

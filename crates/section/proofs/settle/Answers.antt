@@ -13,6 +13,6 @@ settle_in-settled-requires c = (rw c.light.ensures c.requires.0, most _ c.requir
 
 pub returns : goal.returns
 returns c =
-    handed_out _ c.requires.1 _ (settled_full _ c.requires.1 c.args.l c.args.length c.args.w) _
-    (c.settle_in-settled.ensures ∙ ap (λ w. handed (settled c.args.d c.args.l c.args.length w) (replicate 62 0)) (light_whole c.args.w c.light.ensures)) _ _
+    handed_out _ c.requires.1 _ (settled_full _ c.requires.1 c.args.l c.args.length c.args.w) _ _
+    (c.settle_in-settled.ensures ∙ ap (λ w. handed (settled c.args.d c.args.l c.args.length w) (replicate 62 0)) (light_whole c.args.w c.light.ensures c.values-values.ensures)) _ _
     c.hand_out.ensures
