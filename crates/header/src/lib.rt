@@ -44,12 +44,13 @@ fn newer_value(
     ensures { result ≡ newer prefix.now line.start (drop line.start text.now) earlier }
 {
     if text[line.start..line.end].starts_with(prefix) {
-        return Some(Stretch {
+        Some(Stretch {
             start: line.start + prefix.len(),
             end: line.end,
-        });
+        })
+    } else {
+        earlier
     }
-    earlier
 }
 
 // Behind a line feed, or the end of the text.

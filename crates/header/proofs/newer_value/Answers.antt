@@ -9,5 +9,5 @@ slice_bounds-starts_with-end c = search end_within
 pub returns-then-starts_with : goal.returns-then-starts_with
 returns-then-starts_with c = newer_here _ _ _ _ c.starts_with.ensures.value c.requires.1 c.if-starts_with.true
 
-pub returns : goal.returns
-returns c = newer_not _ _ _ _ c.starts_with.ensures.value c.requires.1 c.if-starts_with.false
+pub returns-else-starts_with : goal.returns-else-starts_with
+returns-else-starts_with c = newer_not _ _ _ _ c.starts_with.ensures.value c.requires.1 c.if-starts_with.false
