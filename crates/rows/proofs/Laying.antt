@@ -30,9 +30,6 @@ module _ (count room size len : ℕ) (h : count < room) (e : room ≡ len / size
       let d : room * size ≤ len = rw e (div-mul-le_self len size) in
       omega (arith, m, d, suc-mul count size)
 
-  pub rows_below : count < len
-  rows_below = omega (arith, div-le_self len size)
-
 pub at_more : (count size : ℕ) → count * size + size ≡ (count + 1) * size
 at_more count size = rw (add-one, suc-mul)
 

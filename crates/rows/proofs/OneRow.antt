@@ -26,11 +26,6 @@ pub row_length_some : (d : Definition) → 36 ≤ row_length d
 unfolding row_length width
 row_length_some d = omega arith
 
--- ## What an answer shows
-
-pub row_shows : {a b : Answer} (vs ws : List ℕ) {h g : Heading} → a ≡ b → h ≡ g → row_beside g ws ≡ row_for b vs → row_beside h ws ≡ row_for a vs
-row_shows vs ws e made f = ap (λ x. row_beside x ws) made ∙ f ∙ ap (λ x. row_for x vs) (sym e)
-
 -- ## Its bytes
 
 module _ (b₀ : List ℕ) (at n : ℕ) (r : Row) where
