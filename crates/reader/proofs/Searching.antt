@@ -1,19 +1,18 @@
 -- The search as the library's `position` goes about it.
-use Prim.Native.Nat.{ℕ, ◌+◌, ◌-◌, ◌≤◌}
-use mathlib.Core.Bool.{Bool, true, false, cond, not}
+use Prim.Native.Nat.{ℕ, ◌+◌, ◌≤◌}
+use mathlib.Core.Bool.{Bool, true, false, cond}
 use mathlib.Core.List.{List, [], ◌∷◌}
+use mathlib.Core.Logic.{◌⊎◌, inl, inr}
 use mathlib.Core.Path.{◌≡◌, refl, sym, ap, ◌∙◌}
 use native.Mathlib.Omega.{arith}
-use denote.Enum.Bare.{sameb}
-use lib.Dec.{ltb}
+use borrow.Author.Tests.{ne_eqb}
+use lib.Dec.{eqb, ltb}
 use lib.ListN.{length, drop, length-drop, drop_of_length-le}
 use Rattle.std.specs.Prelude.{Option, Some, None, option_map, slice_range}
 use Rattle.std.specs.List.{position_from, position_or_len}
 use Rattle.std.proofs.lemmas.List.{take_all}
 use Rattle.std.proofs.lemmas.Iterator.Adapters.{position_from-zero}
-use Rattle.reader.specs.contracts.Kind.{the_type}
-use Rattle.reader.specs.declared.Kind.{Kind}
-use Rattle.reader.specs.declared.Kind.TheVariants.{Event, Intra, Inter, Gps, Home, Slow}
+use Rattle.reader.specs.declared.Kind.TheVariants.{Inter}
 use Rattle.reader.specs.Search.{letter_of, searched, further, ahead}
 
 abbrev pub sought : ℕ → Bool
@@ -48,12 +47,20 @@ pub beyond : (s : List ℕ) (i : ℕ) → length s ≤ i → None ≡ ahead (dro
 unfolding ahead
 beyond s i h = ap ahead (sym (drop_of_length-le s h))
 
--- the kinds that are sought: all but one
-pub all_but_one : (k : Kind) → not (sameb the_type k Inter) ≡ searched (Some k)
-unfolding searched
-all_but_one Event = refl
-all_but_one Intra = refl
-all_but_one Inter = refl
-all_but_one Gps = refl
-all_but_one Home = refl
-all_but_one Slow = refl
+-- ## A byte that is sought, or is not
+
+pub passed : (b : ℕ) → (b ≡ 69 → ⊥) × (b ≡ 71 → ⊥) × (b ≡ 72 → ⊥) × (b ≡ 73 → ⊥) × (b ≡ 83 → ⊥) → false ≡ sought b
+unfolding searched letter_of
+passed b h = rw (ne_eqb b 69 h.0, ne_eqb b 71 h.1, ne_eqb b 72 h.2, ne_eqb b 73 h.3, ne_eqb b 83 h.4) (p_or_none (eqb b 80))
+  where
+    p_or_none : (t : Bool) → false ≡ searched (cond t (Some Inter) None)
+    p_or_none true = refl
+    p_or_none false = refl
+
+pub is_sought : (b : ℕ) → (b ≡ 69) ⊎ (b ≡ 71) ⊎ (b ≡ 72) ⊎ (b ≡ 73) ⊎ (b ≡ 83) → true ≡ sought b
+unfolding searched letter_of
+is_sought b (inl e) = rw e
+is_sought b (inr (inl e)) = rw e
+is_sought b (inr (inr (inl e))) = rw e
+is_sought b (inr (inr (inr (inl e)))) = rw e
+is_sought b (inr (inr (inr (inr e)))) = rw e

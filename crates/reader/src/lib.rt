@@ -103,10 +103,7 @@ impl Kind {
 fn stops(b: u8) -> bool
     ensures { result ≡ searched (letter_of b) }
 {
-    match Kind::from_byte(b) {
-        Some(kind) => kind != Kind::Inter,
-        None => false,
-    }
+    matches!(b, b'E' | b'I' | b'S' | b'G' | b'H')
 }
 
 // How far ahead the next of E I S G H stands, the byte at `from` included, or nothing where none is left; P is passed over.
