@@ -1,18 +1,19 @@
 -- Readings put together: the laws of `over`, `after` and `◌>>=◌`, and what they come to at the places of a section.
 -- The laws at places are stated over F, what the code answers for a reading at a place, whatever the type of its answer.
 use Prim.Native.Nat.{ℕ}
-use mathlib.Core.List.{List, []}
+use mathlib.Core.List.{List}
 use mathlib.Core.Path.{◌≡◌, refl, sym, ap, ap₂, ◌∙◌}
 use native.Mathlib.Nat.{add_assoc, add-zero, zero-add}
 use lib.ListN.{drop}
 use lib.Seq.{drop-drop}
-use Rattle.std.specs.Prelude.{Result, Ok, Err}
+use Rattle.std.specs.Prelude.{Result, Ok, Err, IsErrAnd}
+use Rattle.std.proofs.lemmas.Result.{err_from_is_err_and}
 use Rattle.reader.specs.declared.Cursor.{Cursor}
 use Rattle.reader.specs.declared.Fault.{Fault}
 use Rattle.reader.specs.declared.Fault.TheVariants.{Cut, Corrupt}
 use Rattle.reader.specs.declared.Group.{Group}
 use Rattle.reader.specs.Got.{Spent, nothing, both, Got, got, cut, corrupt, over, after, Reader, onward, ◌>>=◌, give}
-use Rattle.reader.specs.Place.{rest, on, read_at, padded, group_at}
+use Rattle.reader.specs.Place.{rest, on, read_at, padded, no_values, group_at}
 
 -- ## Without places
 
@@ -107,18 +108,18 @@ pub ok_parts : {A : Type 0} {a b : A} {p q : Cursor} → ◌≡◌ {A = Result (
 ok_parts {A} {a} {b} {p} {q} e = let same : ◌≡◌ {A = A × Cursor} (a, p) (b, q) = cc in (ap (λ x. x.0) same, ap (λ x. x.1) same)
 
 module _ {A B R : Type 0} (F : Cursor → Got B → R) (G : B → Cursor → R) (F-got : (c : Cursor) (b : B) (u : Spent) → F c (got b u) ≡ G b (on c u))
-    (f : A → B) (c : Cursor) {r : Result (A × Cursor) Fault} where
-  arm_ok : (g : Got A) {a : A} {n : Cursor} → r ≡ read_at c g → r ≡ Ok (a, n) → G (f a) n ≡ F c (over f g)
+    (f : A → B) (c : Cursor) where
+  arm_ok : (g : Got A) {a : A} {n : Cursor} → Ok (a, n) ≡ read_at c g → G (f a) n ≡ F c (over f g)
   unfolding over read_at
-  arm_ok (got w u) e₁ e₂ = let same = ok_parts (sym e₂ ∙ e₁) in ap₂ (λ x n. G (f x) n) same.0 same.1 ∙ sym (F-got c (f w) u)
-  arm_ok cut e₁ e₂ = cc
-  arm_ok corrupt e₁ e₂ = cc
+  arm_ok (got w u) e = let same = ok_parts e in ap₂ (λ x n. G (f x) n) same.0 same.1 ∙ sym (F-got c (f w) u)
+  arm_ok cut e = absurd (cc)
+  arm_ok corrupt e = absurd (cc)
 
-  arm_err : (g : Got A) {e : Fault} → r ≡ read_at c g → r ≡ Err e → F c (met e) ≡ F c (over f g)
+  arm_err : (g : Got A) {d : Fault} → Err d ≡ read_at c g → F c (met d) ≡ F c (over f g)
   unfolding over read_at
-  arm_err (got w u) e₁ e₂ = cc
-  arm_err cut e₁ e₂ = cc
-  arm_err corrupt e₁ e₂ = cc
+  arm_err (got w u) e = absurd (cc)
+  arm_err cut {d} e = let same : d ≡ Cut = cc in rw same
+  arm_err corrupt {d} e = let same : d ≡ Corrupt = cc in rw same
 
 read_got : {A : Type 0} (c : Cursor) (a : A) (u : Spent) → read_at c (got a u) ≡ Ok (a, on c u)
 unfolding read_at
@@ -133,26 +134,36 @@ unfolding read_at
 read_met c Cut = refl
 read_met c Corrupt = refl
 
-pub group_met : (c : Cursor) (e : Fault) → group_at c (met e) ≡ record { step = Err e; values = padded 8 [] }
+pub group_met : (c : Cursor) (e : Fault) → group_at c (met e) ≡ no_values (Err e)
 unfolding group_at
 group_met c Cut = refl
 group_met c Corrupt = refl
 
--- a value made of a value
-module _ {A B : Type 0} (f : A → B) (c : Cursor) {r : Result (A × Cursor) Fault} (g : Got A) where
-  pub made_ok : {a : A} {b : B} {n : Cursor} → r ≡ read_at c g → r ≡ Ok (a, n) → b ≡ f a → Ok (b, n) ≡ read_at c (over f g)
-  made_ok {n = n} e₁ e₂ e₃ = ap (λ x. Ok (x, n)) e₃ ∙ arm_ok read_at (λ b n. Ok (b, n)) read_got f c g e₁ e₂
+-- no value, whatever is made of it
+pub over_met : {A B : Type 0} (f : A → B) (d : Fault) → over f (met d) ≡ met d
+unfolding over
+over_met f Cut = refl
+over_met f Corrupt = refl
 
-  pub made_err : {e : Fault} → r ≡ read_at c g → r ≡ Err e → Err e ≡ read_at c (over f g)
-  made_err {e} e₁ e₂ = sym (read_met c e) ∙ arm_err read_at (λ b n. Ok (b, n)) read_got f c g e₁ e₂
+-- a value made of a value
+module _ {A B : Type 0} (f : A → B) (c : Cursor) (g : Got A) where
+  pub made_ok : {a : A} {b : B} {n : Cursor} → Ok (a, n) ≡ read_at c g → b ≡ f a → Ok (b, n) ≡ read_at c (over f g)
+  made_ok {n = n} e h = ap (λ x. Ok (x, n)) h ∙ arm_ok read_at (λ b n. Ok (b, n)) read_got f c g e
+
+  pub made_err : {d : Fault} → Err d ≡ read_at c g → Err d ≡ read_at c (over f g)
+  made_err {d} e = sym (read_met c d) ∙ arm_err read_at (λ b n. Ok (b, n)) read_got f c g e
 
 -- a group made of a value
 abbrev next : List ℕ → Cursor → Group
 next vs n = record { step = Ok n; values = padded 8 vs }
 
-module _ {A : Type 0} (f : A → List ℕ) (c : Cursor) {r : Result (A × Cursor) Fault} (g : Got A) where
-  pub group_ok : {a : A} {n : Cursor} → r ≡ read_at c g → r ≡ Ok (a, n) → record { step = Ok n; values = padded 8 (f a) } ≡ group_at c (over f g)
-  group_ok e₁ e₂ = arm_ok group_at next group_got f c g e₁ e₂
+module _ {A : Type 0} (f : A → List ℕ) (c : Cursor) (g : Got A) where
+  pub group_ok : {a : A} {n : Cursor} → Ok (a, n) ≡ read_at c g → next (f a) n ≡ group_at c (over f g)
+  group_ok e = arm_ok group_at next group_got f c g e
 
-  pub group_err : {e : Fault} → r ≡ read_at c g → r ≡ Err e → record { step = Err e; values = padded 8 [] } ≡ group_at c (over f g)
-  group_err {e} e₁ e₂ = sym (group_met c e) ∙ arm_err group_at next group_got f c g e₁ e₂
+  pub group_err : {d : Fault} → Err d ≡ read_at c g → no_values (Err d) ≡ group_at c (over f g)
+  group_err {d} e = sym (group_met c d) ∙ arm_err group_at next group_got f c g e
+
+-- what a `?` hands on is the fault that it met
+pub handed_on : {A : Type 0} {r : Result A Fault} {d : Fault} → IsErrAnd r (λ e. e ≡ d) → r ≡ Err d
+handed_on {r = r} h = let p = err_from_is_err_and r h in p.1 ∙ ap Err p.2
