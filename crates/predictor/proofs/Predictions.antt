@@ -1,11 +1,8 @@
 -- What a history that is there or not makes of predictors 2 and 3, and what a number that is no predictor gives.
-use Rattle.std.proofs.Common.{◌≡◌, ℕ, ◌^◌, ◌<◌, Bool, true, false, ◌⊎◌, ℤ, sym, refl, ◌∙◌, inl, inr, ne_eqb}
-use mathlib.Core.Option.{Option, none, some}
+use Rattle.std.proofs.Common.{Option, None, Some, ◌≡◌, ℕ, ◌^◌, ◌<◌, Bool, true, false, ◌⊎◌, ℤ, sym, refl, ◌∙◌, inl, inr, ne_eqb}
 use Rattle.bits.specs.Pattern.{wrap, pattern}
 use Rattle.bits.proofs.Laws.{wrap_id, pattern_meant}
-use Rattle.predictor.specs.declared.Before.{Before}
 use Rattle.predictor.specs.declared.Surroundings.{Surroundings}
-use Rattle.predictor.specs.Owes.{given, last_of, older_of}
 use Rattle.predictor.specs.Predictors.{or_zero, meaning, from_both, prediction}
 use Rattle.predictor.specs.Sign.{value_of}
 
@@ -40,22 +37,9 @@ beyond signed around last older motor p ((((((((((((u, a), b), c), d), e), f), g
       ne_eqb p 11 l,
     )
 
--- what predictors 2 and 3 say of a field's histories
-module _ (both : ℤ → ℤ → ℤ) (signed : Bool) (b : Before) where
-  abbrev Says : ℕ → Type 0
-  Says r = r ≡ pattern (from_both both (meaning signed (last_of b)) (meaning signed (older_of b)))
-
-  pub both_there : {r : ℕ} → b.has_last ≡ true → b.has_older ≡ true → r ≡ pattern (both (value_of signed b.last) (value_of signed b.older)) → Says r
-  unfolding given meaning from_both
-  both_there e f g = rw (e, f) g
-
-  -- without older it is last or 0, and without last too
-  no_older : (last : Option ℕ) → or_zero last < 2 ^ 32 → or_zero last ≡ pattern (from_both both (meaning signed last) none)
+-- what predictors 2 and 3 say of a field's histories: without older it is last or 0, and without last 0
+module _ (both : ℤ → ℤ → ℤ) (signed : Bool) where
+  pub no_older : (last : Option ℕ) → or_zero last < 2 ^ 32 → or_zero last ≡ pattern (from_both both (meaning signed last) None)
   unfolding or_zero meaning from_both pattern wrap
-  no_older none h = refl
-  no_older (some v) h = sym (pattern_value signed v h)
-
-  pub one_missing : {r : ℕ} → r < 2 ^ 32 → (b.has_older ≡ false) ⊎ (b.has_last ≡ false) → r ≡ or_zero (last_of b) → Says r
-  unfolding given meaning from_both or_zero pattern wrap
-  one_missing h (inl e) g = rw e (g ∙ no_older (last_of b) (rw g at h))
-  one_missing h (inr e) g = rw e (rw e at g)
+  no_older None h = refl
+  no_older (Some v) h = sym (pattern_value signed v h)

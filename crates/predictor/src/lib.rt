@@ -4,8 +4,8 @@
 
 ghost use Rattle.std.specs.Prelude.{◌≡◌, ◌+◌, ◌^◌, false};
 ghost use Rattle.bits.specs.Pattern.{pattern, wrap};
-ghost use Rattle.predictor.specs.Owes.{IsSignedOwes, StraightLineOwes, PredictOwes, ApplyOwes, last_of, older_of};
-ghost use Rattle.predictor.specs.Predictors.{or_zero, meaning, from_both, number_of, prediction};
+ghost use Rattle.predictor.specs.Owes.{IsSignedOwes, StraightLineOwes, PredictOwes, ApplyOwes};
+ghost use Rattle.predictor.specs.Predictors.{or_zero, meaning, from_both, number_of};
 ghost use Rattle.predictor.specs.Predictors as Predictors;
 ghost use Rattle.predictor.specs.Sign.{fits, value_of};
 
@@ -21,21 +21,16 @@ pub struct Surroundings {
 // What stood in a field before: in the last frame and in the older one, each there or not.
 #[derive(Clone, Copy)]
 pub struct Before {
-    pub has_last: bool,
-    pub last: u32,
-    pub has_older: bool,
-    pub older: u32,
+    pub last: Option<u32>,
+    pub older: Option<u32>,
 }
 
 // Whether the values of an encoding are signed: the sign list has no part in it.
+#[tactic(auto, unfolding(crate::specs::Sign::is_signed))]
 pub fn is_signed(encoding: u8) -> bool
     ensures { IsSignedOwes encoding result }
 {
-    match encoding {
-        1 => false,
-        9 => false,
-        _ => true,
-    }
+    !matches!(encoding, 1 | 9)
 }
 
 // 2 * last - older, or last where that is negative or over the top. No step leaves 64 bits: compared before added or subtracted.
@@ -62,10 +57,11 @@ pub fn straight_line(top: u64, last: u64, older: u64) -> u64
 }
 
 // 2^31 further on, and again to come back: signed values in their order are unsigned ones in theirs.
+#[tactic(auto, unfolding(bits::specs::Pattern::wrap))]
 fn turned(v: u32) -> u32
     ensures { result ≡ wrap (v + 2 ^ 31) }
 {
-    std::num::wrapping_add_u32(v, 2147483648)
+    v.wrapping_add(2147483648)
 }
 
 fn straight_32(last: u32, older: u32) -> u32
@@ -97,40 +93,36 @@ fn mean(signed: bool, last: u32, older: u32) -> u32
     ((last as u64 + older as u64) / 2) as u32
 }
 
-fn last_or_zero(before: Before) -> u32
-    ensures { result ≡ or_zero (last_of before) }
-{
-    if before.has_last { before.last } else { 0 }
-}
-
+#[tactic(auto, using(crate::proofs::Predictions::pattern_value), unfolding(crate::specs::Predictors::meaning, crate::specs::Predictors::from_both, bits::specs::Pattern::pattern, bits::specs::Pattern::wrap))]
 fn straight_on(signed: bool, before: Before) -> u32
-    ensures { result ≡ pattern (from_both (Predictors.straight (fits signed)) (meaning signed (last_of before)) (meaning signed (older_of before))) }
+    ensures { result ≡ pattern (from_both (Predictors.straight (fits signed)) (meaning signed before.last) (meaning signed before.older)) }
 {
-    if before.has_last {
-        if before.has_older {
-            return straight(signed, before.last, before.older);
-        }
+    match (before.last, before.older) {
+        (None, _) => 0,
+        (Some(last), None) => last,
+        (Some(last), Some(older)) => straight(signed, last, older),
     }
-    last_or_zero(before)
 }
 
+#[tactic(auto, using(crate::proofs::Predictions::pattern_value), unfolding(crate::specs::Predictors::meaning, crate::specs::Predictors::from_both, bits::specs::Pattern::pattern, bits::specs::Pattern::wrap))]
 fn average(signed: bool, before: Before) -> u32
-    ensures { result ≡ pattern (from_both Predictors.mean (meaning signed (last_of before)) (meaning signed (older_of before))) }
+    ensures { result ≡ pattern (from_both Predictors.mean (meaning signed before.last) (meaning signed before.older)) }
 {
-    if before.has_last {
-        if before.has_older {
-            return mean(signed, before.last, before.older);
-        }
+    match (before.last, before.older) {
+        (None, _) => 0,
+        (Some(last), None) => last,
+        (Some(last), Some(older)) => mean(signed, last, older),
     }
-    last_or_zero(before)
 }
 
+#[tactic(auto, unfolding(bits::specs::Pattern::wrap, crate::specs::Predictors::or_zero))]
 fn increment(skipped: u32, before: Before) -> u32
-    ensures { result ≡ wrap (skipped + 1 + or_zero (last_of before)) }
+    ensures { result ≡ wrap (skipped + 1 + or_zero before.last) }
 {
-    std::num::wrapping_add_u32(std::num::wrapping_add_u32(skipped, 1), last_or_zero(before))
+    skipped.wrapping_add(1).wrapping_add(before.last.unwrap_or(0))
 }
 
+#[tactic(auto, unfolding(crate::specs::Predictors::number_of))]
 fn number(of: HeaderNumber) -> u32
     ensures { result ≡ number_of of }
 {
@@ -142,6 +134,7 @@ fn number(of: HeaderNumber) -> u32
 
 // The prediction for a field; motor_0 is the frame's own earlier motor[0]. A number that is no predictor gives 0.
 // One match over all of them is compiled to a table of jumps.
+#[tactic(auto, unfolding(crate::specs::Predictors::prediction, crate::specs::Predictors::or_zero))]
 pub fn predict(
     predictor: u8,
     signed: bool,
@@ -157,7 +150,7 @@ pub fn predict(
     let least = numbers.min_motor;
     match predictor {
         0 => 0,
-        1 => last_or_zero(before),
+        1 => before.last.unwrap_or(0),
         2 => straight_on(signed, before),
         3 => average(signed, before),
         4 => number(throttle),
@@ -173,6 +166,7 @@ pub fn predict(
 }
 
 // The value of a field: its raw number and its prediction, wrapping whatever the predictor.
+#[tactic(auto, unfolding(bits::specs::Pattern::wrap, crate::specs::Predictors::applied))]
 pub fn apply(
     predictor: u8,
     raw: u32,
@@ -184,5 +178,5 @@ pub fn apply(
     ensures { ApplyOwes predictor raw signed around before motor_0 result }
 {
     let prediction = predict(predictor, signed, around, before, motor_0);
-    std::num::wrapping_add_u32(raw, prediction)
+    raw.wrapping_add(prediction)
 }
