@@ -33,27 +33,20 @@ pub fn is_signed(encoding: u8) -> bool
     !matches!(encoding, 1 | 9)
 }
 
-// 2 * last - older, or last where that is negative or over the top. No step leaves 64 bits: compared before added or subtracted.
+// 2 * last - older, or last where that is negative or over the top. No step leaves 64 bits: what does is None.
+#[tactic(auto, using(crate::proofs::Lines::stays_from_below, crate::proofs::Lines::stays_from_over, crate::proofs::Lines::goes_on))]
 pub fn straight_line(top: u64, last: u64, older: u64) -> u64
     ensures { StraightLineOwes top last older result }
 {
-    if last < older {
-        let down = older - last;
-        if last < down {
-            return last;
-        }
-        let low = last - down;
-        if top < low {
-            return last;
-        }
-        return low;
+    let line = if last < older {
+        last.checked_sub(older - last)
+    } else {
+        last.checked_add(last - older)
+    };
+    match line {
+        Some(line) if line <= top => line,
+        _ => last,
     }
-    let up = last - older;
-    if u64::MAX - last < up {
-        return last;
-    }
-    let high = last + up;
-    if top < high { last } else { high }
 }
 
 // 2^31 further on, and again to come back: signed values in their order are unsigned ones in theirs.
@@ -64,6 +57,7 @@ fn turned(v: u32) -> u32
     v.wrapping_add(2147483648)
 }
 
+#[tactic(auto, using(crate::proofs::Lines::straight_below, crate::proofs::Lines::straight_unsigned))]
 fn straight_32(last: u32, older: u32) -> u32
     ensures { result ≡ pattern (Predictors.straight (fits false) (value_of false last) (value_of false older)) }
 {
@@ -71,6 +65,7 @@ fn straight_32(last: u32, older: u32) -> u32
 }
 
 // Predictor 2 where there are both.
+#[tactic(auto, using(crate::proofs::Lines::straight_signed))]
 fn straight(signed: bool, last: u32, older: u32) -> u32
     ensures { result ≡ pattern (Predictors.straight (fits signed) (value_of signed last) (value_of signed older)) }
 {
@@ -81,6 +76,7 @@ fn straight(signed: bool, last: u32, older: u32) -> u32
 }
 
 // Predictor 3 where there are both. The sum of two turned values stands 2^32 above that of the signed ones.
+#[tactic(auto, using(crate::proofs::Means::mean_signed, crate::proofs::Means::mean_unsigned))]
 fn mean(signed: bool, last: u32, older: u32) -> u32
     ensures { result ≡ pattern (Predictors.mean (value_of signed last) (value_of signed older)) }
 {
@@ -93,7 +89,8 @@ fn mean(signed: bool, last: u32, older: u32) -> u32
     ((last as u64 + older as u64) / 2) as u32
 }
 
-#[tactic(auto, using(crate::proofs::Predictions::pattern_value), unfolding(crate::specs::Predictors::meaning, crate::specs::Predictors::from_both, bits::specs::Pattern::pattern, bits::specs::Pattern::wrap))]
+// Three lines that `average` has too: one function would take a closure, and then promise what this says for each closure.
+#[tactic(auto, using(crate::proofs::Predictions::histories))]
 fn straight_on(signed: bool, before: Before) -> u32
     ensures { result ≡ pattern (from_both (Predictors.straight (fits signed)) (meaning signed before.last) (meaning signed before.older)) }
 {
@@ -104,7 +101,7 @@ fn straight_on(signed: bool, before: Before) -> u32
     }
 }
 
-#[tactic(auto, using(crate::proofs::Predictions::pattern_value), unfolding(crate::specs::Predictors::meaning, crate::specs::Predictors::from_both, bits::specs::Pattern::pattern, bits::specs::Pattern::wrap))]
+#[tactic(auto, using(crate::proofs::Predictions::histories))]
 fn average(signed: bool, before: Before) -> u32
     ensures { result ≡ pattern (from_both Predictors.mean (meaning signed before.last) (meaning signed before.older)) }
 {
@@ -119,7 +116,9 @@ fn average(signed: bool, before: Before) -> u32
 fn increment(skipped: u32, before: Before) -> u32
     ensures { result ≡ wrap (skipped + 1 + or_zero before.last) }
 {
-    skipped.wrapping_add(1).wrapping_add(before.last.unwrap_or(0))
+    skipped
+        .wrapping_add(1)
+        .wrapping_add(before.last.unwrap_or(0))
 }
 
 #[tactic(auto, unfolding(crate::specs::Predictors::number_of))]
