@@ -1,5 +1,5 @@
 -- A value of a history and its pattern; and what predictors 2 and 3 say of the histories that there are.
-use Rattle.std.proofs.Common.{◌≡◌, ℕ, ◌^◌, ◌<◌, Bool, true, false, ℤ, Option, Some, None, sym, refl}
+use Rattle.std.proofs.Common.{◌≡◌, ℕ, ◌^◌, ◌<◌, Bool, true, false, ℤ, Option, Some, None, refl}
 use Rattle.bits.specs.Pattern.{wrap, pattern}
 use Rattle.bits.proofs.Laws.{wrap_id, pattern_meant}
 use Rattle.predictor.specs.Predictors.{meaning, from_both}

@@ -1,8 +1,6 @@
 -- What each predictor says of a field, and the value that a raw number and a prediction make (document 01, "Predictors").
 use Rattle.std.specs.Prelude.{ℕ, suc, ◌+◌, ◌/◌, Bool, cond, ℤ, pos, negsuc, ◌+ℤ◌, ◌-ℤ◌, ◌*ℤ◌, neg_ℤ, ◌==◌, Option, Some, None}
 use Rattle.bits.specs.Pattern.{wrap, pattern}
-use Rattle.plan.specs.declared.HeaderNumber.{HeaderNumber}
-use Rattle.plan.specs.declared.HeaderNumber.TheVariants.{Absent, Given}
 use Rattle.predictor.specs.declared.Surroundings.{Surroundings}
 use Rattle.predictor.specs.Sign.{value_of, fits}
 
@@ -36,9 +34,9 @@ unfoldable pub mean : (last older : ℤ) → ℤ
 mean l o = half (l +ℤ o)
 
 -- a header number; a definition whose predictors need one that is absent is refused, so that no walk uses the 0
-unfoldable pub number_of : HeaderNumber → ℕ
-number_of Absent = 0
-number_of (Given v) = v
+unfoldable pub number_of : Option ℕ → ℕ
+number_of None = 0
+number_of (Some v) = v
 
 -- The prediction for a field, as a 32-bit pattern: `motor` is the frame's own earlier `motor[0]`.
 -- 7 has no home here; a number that is no predictor is refused with the definition, and gives 0.

@@ -9,7 +9,7 @@ ghost use Rattle.predictor.specs.Predictors.{or_zero, meaning, from_both, number
 ghost use Rattle.predictor.specs.Predictors as Predictors;
 ghost use Rattle.predictor.specs.Sign.{fits, value_of};
 
-use plan::{HeaderNumber, Numbers};
+use plan::Numbers;
 
 // What the predictors of a frame look at besides its histories.
 #[derive(Clone, Copy)]
@@ -122,13 +122,10 @@ fn increment(skipped: u32, before: Before) -> u32
 }
 
 #[tactic(auto, unfolding(crate::specs::Predictors::number_of))]
-fn number(of: HeaderNumber) -> u32
-    ensures { result ≡ number_of of }
+fn number(given: Option<u16>) -> u32
+    ensures { result ≡ number_of given }
 {
-    match of {
-        HeaderNumber::Absent => 0,
-        HeaderNumber::Given(v) => v as u32,
-    }
+    u32::from(given.unwrap_or(0))
 }
 
 // The prediction for a field; motor_0 is the frame's own earlier motor[0]. A number that is no predictor gives 0.
@@ -144,22 +141,19 @@ pub fn predict(
     ensures { PredictOwes predictor signed around before motor_0 result }
 {
     let numbers = around.numbers;
-    let throttle = numbers.min_throttle;
-    let battery = numbers.vbat_reference;
-    let least = numbers.min_motor;
     match predictor {
         0 => 0,
         1 => before.last.unwrap_or(0),
         2 => straight_on(signed, before),
         3 => average(signed, before),
-        4 => number(throttle),
+        4 => number(numbers.min_throttle),
         5 => motor_0,
         6 => increment(around.skipped, before),
         7 => 0,
         8 => 1500,
-        9 => number(battery),
+        9 => number(numbers.vbat_reference),
         10 => 0,
-        11 => number(least),
+        11 => number(numbers.min_motor),
         _ => 0,
     }
 }
