@@ -209,7 +209,7 @@ pub fn intra_in(
     Head {
         mark: Mark::Intra,
         iteration,
-        time: time as u64,
+        time: u64::from(time),
     }
 }
 

@@ -20,7 +20,6 @@ fn predicted_time(last: Head, older: Head) -> u64
 }
 
 // Moved by a signed offset, held at 0 and at the top.
-#[tactic(auto, unfolding(crate::specs::Time::time_after))]
 pub(crate) fn time_after(last: Head, older: Head, offset: u32) -> u64
     ensures { (ls os : List ℕ) → result ≡ time_after (past_of (body_of (frame_of last ls)) (body_of (frame_of older os))) offset }
 {

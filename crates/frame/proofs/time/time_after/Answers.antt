@@ -9,5 +9,5 @@ pub returns : goal.returns
 unfolding time_after
 returns c =
     λ ls os.
-    moved c.predicted_time.result c.args.offset (omega arith) c.cast_signed.ensures c.from.ensures c.saturating_add_signed.ensures
-    ∙ ap (λ z. held (z +ℤ meant c.args.offset)) (c.predicted_time.ensures ls os)
+    moved c.predicted_time-time.result c.args.offset (omega arith) c.cast_signed.ensures c.from.ensures c.saturating_add_signed.ensures
+    ∙ ap (λ z. held (z +ℤ meant c.args.offset)) (c.predicted_time-time.ensures ls os)
