@@ -1,6 +1,6 @@
 -- Fields read by lists of their own: numbers in 62 rooms make the values that the numbers make, and what the code answers is what is read.
 use Rattle.std.proofs.Common.{◌≡◌, ℕ, ◌<◌, ◌≤◌, Bool, true, false, cond, not, List, length, get_or, take, replicate, sym, refl, Option}
-use Rattle.std.proofs.Common.{ap, ◌∙◌, ap₂, arith, length-take}
+use Rattle.std.proofs.Common.{ap, ◌∙◌, arith, length-take}
 use lib.Seq.{sets-eq, take-append-le}
 use borrow.Author.Tests.{not-true, not-false}
 use Rattle.plan.specs.Owes.{AreSoundOwes}

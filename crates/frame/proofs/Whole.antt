@@ -1,8 +1,8 @@
 -- Whole frames from their parts: the lists of a definition cut at the field count, and what the frames before leave.
-use Rattle.std.proofs.Common.{option_map, ◌≡◌, ℕ, zero, suc, ◌+◌, min, Bool, cond, eqb, List, length, take, ◌+ℤ◌, sym, refl, ap, ◌∙◌, ap₂, arith, length-take, ne_eqb, Option, None, Some}
+use Rattle.std.proofs.Common.{option_map, ◌≡◌, ℕ, zero, suc, ◌+◌, min, cond, eqb, List, length, take, sym, refl, ap, ◌∙◌, ap₂, arith, length-take, ne_eqb, Option, None, Some}
 use Rattle.bits.specs.Pattern.{wrap}
 use Rattle.plan.specs.declared.Definition.{Definition}
-use Rattle.plan.specs.Plan.{fields, shape, rules}
+use Rattle.plan.specs.Plan.{shape, rules}
 use Rattle.plan.proofs.Rooms.{SlowRooms, front_all}
 use Rattle.predictor.specs.declared.Surroundings.{Surroundings}
 use Rattle.predictor.specs.Predictors.{or_zero}

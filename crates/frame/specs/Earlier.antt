@@ -1,6 +1,6 @@
 -- How the code goes by the fields, and by values in their rooms.
 -- No part of the meaning: only contracts of private functions cite it.
-use Rattle.std.specs.Prelude.{ℕ, Bool, true, false, List, ℤ, pos, Option, None, Some}
+use Rattle.std.specs.Prelude.{ℕ, List, Option}
 use Rattle.predictor.specs.declared.Surroundings.{Surroundings}
 use Rattle.reader.specs.Place.{padded}
 use Rattle.frame.specs.declared.FieldLists.{FieldLists}

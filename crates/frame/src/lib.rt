@@ -209,7 +209,7 @@ pub fn intra_in(
     Head {
         mark: Mark::Intra,
         iteration,
-        time: u64::from(time),
+        time: time as u64,
     }
 }
 

@@ -1,6 +1,6 @@
 -- `frame::values_of` meets its contract. The invariant: the fields before `i` have their values, and the rooms from `i` on are 0.
 -- It requires as many encodings as predictors, at most 62.
-use Rattle.std.proofs.Common.{arith, rules}
+use Rattle.std.proofs.Common.{arith}
 use Rattle.frame.proofs.Loop.{stands_first, stands_on, stands_last}
 use Rattle.frame.proofs.values_of.Goals as goal
 

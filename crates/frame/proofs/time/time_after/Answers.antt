@@ -1,5 +1,5 @@
 -- `frame::time::time_after` meets its contract: predictor 2 of the times, moved by the offset. Assumes nothing.
-use Rattle.std.proofs.Common.{pos, ◌+ℤ◌, ap, ◌∙◌, arith}
+use Rattle.std.proofs.Common.{◌+ℤ◌, ap, ◌∙◌, arith}
 use Rattle.bits.specs.Pattern.{meant}
 use Rattle.frame.specs.Time.{held, time_after}
 use Rattle.frame.proofs.Moved.{moved}
