@@ -1,4 +1,4 @@
-// Standard input for the programs: all of it, as far as a buffer of the program's has room.
+// Standard input for the programs: all of it, as far as a buffer of the program's has room, and its lines.
 #![tactic(auto)]
 
 ghost use Rattle.std.specs.Prelude.{◌≡◌, ◌<◌, length, take, IfOk, EachIndex, slice_index};
@@ -31,4 +31,14 @@ pub fn read_full<R: Read>(from: &mut R, buf: &mut [u8]) -> io::Result<usize>
         done += n;
     }
     Ok(done)
+}
+
+// Hands each line of a text, without its line feed, to `each`, until one fails.
+pub fn each_line<F: FnMut(&[u8]) -> io::Result<()>>(text: &[u8], mut each: F) -> io::Result<()>
+    requires { F.IsAlwaysCallable each }
+{
+    for line in text.split_inclusive(|b| *b == b'\n') {
+        each(line.strip_suffix(b"\n".as_slice()).unwrap_or(line))?;
+    }
+    Ok(())
 }

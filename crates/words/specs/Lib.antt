@@ -4,3 +4,4 @@ pub mod Owes
 pub mod Sections
 pub mod Three
 pub mod Words
+pub mod Written

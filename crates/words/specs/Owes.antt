@@ -1,14 +1,12 @@
 -- What each public function of this crate owes.
-use Rattle.std.specs.Prelude.{ℕ, Bool, List, ◌≡◌}
-use Rattle.words.specs.declared.Byte.{Byte}
-use Rattle.words.specs.declared.escapes.Unescaped.{Unescaped}
+use Rattle.std.specs.Prelude.{ℕ, Bool, List, ◌≡◌, Option}
 use Rattle.words.specs.declared.interval.Interval.{Interval}
-use Rattle.words.specs.declared.section.Section.{Section}
 use Rattle.words.specs.declared.three.Three.{Three}
-use Rattle.words.specs.Escapes.{bytes_of, word_of, put_of}
+use Rattle.words.specs.Escapes.{bytes_of, word_of}
 use Rattle.words.specs.Interval.{interval_of}
 use Rattle.words.specs.Sections.{section_of}
 use Rattle.words.specs.Three.{numbers_of}
+use Rattle.words.specs.Written.{put_of}
 use Rattle.words.specs.Words.{first_word, other_words, heading, hex_of}
 
 abbrev pub FirstOwes : List ℕ → List ℕ → Type 0
@@ -20,16 +18,16 @@ BehindOwes s r = r ≡ other_words s
 abbrev pub IsHeadingOwes : List ℕ → Bool → Type 0
 IsHeadingOwes s r = r ≡ heading s
 
-abbrev pub HexOwes : (high low : ℕ) → Byte → Type 0
+abbrev pub HexOwes : (high low : ℕ) → Option ℕ → Type 0
 HexOwes high low r = r ≡ hex_of high low
 
-abbrev pub BytesOwes : (text out : List ℕ) → Section → (after : List ℕ) → Type 0
+abbrev pub BytesOwes : (text out : List ℕ) → Option ℕ → (after : List ℕ) → Type 0
 BytesOwes text out r after = (r, after) ≡ section_of text out
 
-abbrev pub UnescapeOwes : (text out : List ℕ) → Unescaped → (after : List ℕ) → Type 0
+abbrev pub UnescapeOwes : (text out : List ℕ) → Option ℕ → (after : List ℕ) → Type 0
 UnescapeOwes text out r after = (r, after) ≡ put_of (bytes_of text) out
 
-abbrev pub WordOwes : (text out : List ℕ) → Unescaped → (after : List ℕ) → Type 0
+abbrev pub WordOwes : (text out : List ℕ) → Option ℕ → (after : List ℕ) → Type 0
 WordOwes text out r after = (r, after) ≡ put_of (word_of text) out
 
 abbrev pub NumbersOwes : List ℕ → Three → Type 0

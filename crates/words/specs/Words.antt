@@ -1,8 +1,6 @@
 -- A line of a case taken apart: its words, with one space between two.
-use Rattle.std.specs.Prelude.{ℕ, suc, ◌+◌, ◌-◌, ◌*◌, Bool, false, cond, ◌&&◌, List, [], ◌∷◌, eqb, ltb, leb, take, drop}
+use Rattle.std.specs.Prelude.{ℕ, suc, ◌+◌, ◌-◌, ◌*◌, Bool, false, cond, ◌&&◌, List, [], ◌∷◌, eqb, leb, take, drop, Option, Some, None}
 use Rattle.digits.specs.Digits.{before}
-use Rattle.words.specs.declared.Byte.{Byte}
-use Rattle.words.specs.declared.Byte.TheVariants as byte
 
 unfoldable pub first_word : List ℕ → List ℕ
 first_word s = take (before 32 s) s
@@ -16,10 +14,16 @@ unfoldable pub heading : List ℕ → Bool
 heading [] = false
 heading (b ∷ s) = eqb b 35
 
--- the value of a hexadecimal digit, in small letters; 16 for any other byte
-unfoldable pub nibble : ℕ → ℕ
-nibble b = cond (leb 48 b && leb b 57) (b - 48) (cond (leb 97 b && leb b 102) (b - 87) 16)
+-- the value of a hexadecimal digit, in small letters
+unfoldable pub nibble : ℕ → Option ℕ
+nibble b = cond (leb 48 b && leb b 57) (Some (b - 48)) (cond (leb 97 b && leb b 102) (Some (b - 87)) None)
+
+-- the byte whose halves are two digits
+unfoldable pub joined : (high low : Option ℕ) → Option ℕ
+joined None low = None
+joined (Some h) None = None
+joined (Some h) (Some l) = Some (16 * h + l)
 
 -- the byte that two hexadecimal digits write
-unfoldable pub hex_of : (high low : ℕ) → Byte
-hex_of high low = cond (ltb (nibble high) 16 && ltb (nibble low) 16) (byte.Is (16 * nibble high + nibble low)) byte.Wrong
+unfoldable pub hex_of : (high low : ℕ) → Option ℕ
+hex_of high low = joined (nibble high) (nibble low)

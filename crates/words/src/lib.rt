@@ -2,7 +2,7 @@
 // One space stands between two words, so behind two spaces the first word is empty.
 #![tactic(auto)]
 
-ghost use Rattle.std.specs.Prelude.{◌≡◌, ◌≤◌};
+ghost use Rattle.std.specs.Prelude.{◌≡◌, ◌<◌, IfSome};
 ghost use Rattle.words.specs.Owes.{FirstOwes, BehindOwes, IsHeadingOwes, HexOwes};
 ghost use Rattle.words.specs.Words.{nibble};
 
@@ -10,15 +10,9 @@ pub mod escapes;
 pub mod interval;
 pub mod section;
 pub mod three;
+mod written;
 
 use digits::until;
-
-// A byte that two digits write.
-#[derive(Clone, Copy)]
-pub enum Byte {
-    Is(u8),
-    Wrong,
-}
 
 pub fn first(s: &[u8]) -> &[u8]
     ensures { FirstOwes s.now result.now }
@@ -35,42 +29,31 @@ pub fn behind(s: &[u8]) -> &[u8]
     if n < s.len() { &s[n + 1..] } else { &s[n..] }
 }
 
+#[tactic(auto, unfolding(crate::specs::Words::heading))]
 pub fn is_heading(s: &[u8]) -> bool
     ensures { IsHeadingOwes s.now result }
 {
-    if 0 < s.len() { s[0] == b'#' } else { false }
+    matches!(s, [b'#', ..])
 }
 
-// 16 stands for what is no digit.
-fn digit(b: u8) -> u8
-    ensures { (result ≡ nibble b) × (result ≤ 16) }
+#[tactic(auto, unfolding(crate::specs::Words::nibble))]
+fn digit(b: u8) -> Option<u8>
+    ensures value { result ≡ nibble b }
+    ensures small { IfSome result (λ d. d < 16) }
 {
-    if b < b'0' {
-        return 16;
+    match b {
+        b'0'..=b'9' => Some(b - b'0'),
+        b'a'..=b'f' => Some(b - b'a' + 10),
+        _ => None,
     }
-    if b <= b'9' {
-        return b - b'0';
-    }
-    if b < b'a' {
-        return 16;
-    }
-    if b <= b'f' {
-        return b - b'a' + 10;
-    }
-    16
 }
 
 // Two hexadecimal digits in small letters.
-pub fn hex(high: u8, low: u8) -> Byte
+#[tactic(auto, unfolding(crate::specs::Words::hex_of, crate::specs::Words::joined))]
+pub fn hex(high: u8, low: u8) -> Option<u8>
     ensures { HexOwes high low result }
 {
-    let h = digit(high);
-    let l = digit(low);
-    if h == 16 {
-        return Byte::Wrong;
-    }
-    if l == 16 {
-        return Byte::Wrong;
-    }
-    Byte::Is(16 * h + l)
+    let h = digit(high)?;
+    let l = digit(low)?;
+    Some(16 * h + l)
 }
