@@ -1,5 +1,2 @@
-pub mod Intervals
 pub mod One
-pub mod Parting
 pub mod Texts
-pub mod Threes

@@ -5,8 +5,8 @@ use mathlib.Core.List.{List}
 use mathlib.Core.Path.{◌≡◌, ap}
 use Rattle.std.specs.Prelude.{Option}
 use Rattle.plan.proofs.One.{one_answer}
-use Rattle.words.specs.declared.interval.Interval.{Interval}
-use Rattle.words.specs.declared.three.Three.{Three}
+use Rattle.plan.specs.declared.FrameInterval.{FrameInterval}
+use Rattle.plan.specs.declared.Numbers.{Numbers}
 use Rattle.words.specs.Owes.{FirstOwes, BehindOwes, IsHeadingOwes, HexOwes, BytesOwes, UnescapeOwes, WordOwes, NumbersOwes, IntervalOwes, BehindThreeOwes}
 
 pub first_one : (s : List ℕ) {r t : List ℕ} → FirstOwes s r → FirstOwes s t → r ≡ t
@@ -21,10 +21,10 @@ is_heading_one s = one_answer
 pub hex_one : (high low : ℕ) {r t : Option ℕ} → HexOwes high low r → HexOwes high low t → r ≡ t
 hex_one high low = one_answer
 
-pub numbers_one : (s : List ℕ) {r t : Three} → NumbersOwes s r → NumbersOwes s t → r ≡ t
+pub numbers_one : (s : List ℕ) {r t : Option Numbers} → NumbersOwes s r → NumbersOwes s t → r ≡ t
 numbers_one s = one_answer
 
-pub interval_one : (s : List ℕ) {r t : Interval} → IntervalOwes s r → IntervalOwes s t → r ≡ t
+pub interval_one : (s : List ℕ) {r t : Option FrameInterval} → IntervalOwes s r → IntervalOwes s t → r ≡ t
 interval_one s = one_answer
 
 pub behind_three_one : (s : List ℕ) {r t : List ℕ} → BehindThreeOwes s r → BehindThreeOwes s t → r ≡ t

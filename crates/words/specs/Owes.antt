@@ -1,7 +1,7 @@
 -- What each public function of this crate owes.
 use Rattle.std.specs.Prelude.{ℕ, Bool, List, ◌≡◌, Option}
-use Rattle.words.specs.declared.interval.Interval.{Interval}
-use Rattle.words.specs.declared.three.Three.{Three}
+use Rattle.plan.specs.declared.FrameInterval.{FrameInterval}
+use Rattle.plan.specs.declared.Numbers.{Numbers}
 use Rattle.words.specs.Escapes.{bytes_of, word_of}
 use Rattle.words.specs.Interval.{interval_of}
 use Rattle.words.specs.Sections.{section_of}
@@ -30,10 +30,10 @@ UnescapeOwes text out r after = (r, after) ≡ put_of (bytes_of text) out
 abbrev pub WordOwes : (text out : List ℕ) → Option ℕ → (after : List ℕ) → Type 0
 WordOwes text out r after = (r, after) ≡ put_of (word_of text) out
 
-abbrev pub NumbersOwes : List ℕ → Three → Type 0
+abbrev pub NumbersOwes : List ℕ → Option Numbers → Type 0
 NumbersOwes s r = r ≡ numbers_of s
 
-abbrev pub IntervalOwes : List ℕ → Interval → Type 0
+abbrev pub IntervalOwes : List ℕ → Option FrameInterval → Type 0
 IntervalOwes s r = r ≡ interval_of s
 
 abbrev pub BehindThreeOwes : List ℕ → List ℕ → Type 0

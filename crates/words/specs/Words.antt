@@ -9,6 +9,23 @@ first_word s = take (before 32 s) s
 unfoldable pub other_words : List ℕ → List ℕ
 other_words s = drop (suc (before 32 s)) s
 
+-- a number up to a largest one
+unfoldable pub up_to : (most : ℕ) → Option ℕ → Option ℕ
+up_to most None = None
+up_to most (Some n) = cond (leb n most) (Some n) None
+
+-- what three are together: one that is none makes all none
+unfoldable pub each_of : {A B : Type 0} → (A → A → A → B) → (first second third : Option A) → Option B
+each_of together None second third = None
+each_of together (Some a) None third = None
+each_of together (Some a) (Some b) None = None
+each_of together (Some a) (Some b) (Some c) = Some (together a b c)
+
+-- what the first three words say, each by itself and then together
+abbrev pub three_of : {A B : Type 0} → (List ℕ → Option A) → (A → A → A → B) → List ℕ → Option B
+three_of said together s =
+    each_of together (said (first_word s)) (said (first_word (other_words s))) (said (first_word (other_words (other_words s))))
+
 -- `#` begins a heading
 unfoldable pub heading : List ℕ → Bool
 heading [] = false

@@ -14,6 +14,7 @@ mod written;
 
 use digits::until;
 
+#[tactic(auto, using(digits::proofs::Parting::until_within, digits::proofs::Parting::until_taken), unfolding(crate::specs::Words::first_word))]
 pub fn first(s: &[u8]) -> &[u8]
     ensures { FirstOwes s.now result.now }
 {
@@ -22,11 +23,20 @@ pub fn first(s: &[u8]) -> &[u8]
 }
 
 // What stands behind the first word and its space.
+#[tactic(auto, using(digits::proofs::Parting::until_within, digits::proofs::Parting::rest_all), unfolding(crate::specs::Words::other_words))]
 pub fn behind(s: &[u8]) -> &[u8]
     ensures { BehindOwes s.now result.now }
 {
     let n = until(s, b' ');
     if n < s.len() { &s[n + 1..] } else { &s[n..] }
+}
+
+// Both: the first word, and what stands behind it.
+pub fn split(s: &[u8]) -> (&[u8], &[u8])
+    ensures first { FirstOwes s.now result.0.now }
+    ensures behind { BehindOwes s.now result.1.now }
+{
+    (first(s), behind(s))
 }
 
 #[tactic(auto, unfolding(crate::specs::Words::heading))]

@@ -41,6 +41,7 @@ fn put<W: Writing>(text: &[u8], out: &mut [u8])
 }
 
 // A text, in front of a buffer: how many bytes it has there.
+#[tactic(auto, unfolding(crate::specs::Written::counted, crate::specs::Written::put_of, crate::specs::Written::fits))]
 pub(crate) fn write<W: Writing>(text: &[u8], out: &mut [u8]) -> Option<usize>
     ensures value { (result, out.new) ≡ put_of (W.bytes text.now) out.old }
     ensures counts { IfSome result (λ n. Counts n out.new) }
@@ -54,6 +55,7 @@ pub(crate) fn write<W: Writing>(text: &[u8], out: &mut [u8]) -> Option<usize>
 }
 
 // A text that stands as a word between others: - for no bytes.
+#[tactic(auto, unfolding(crate::specs::Written::dashed, crate::specs::Written::put_of, crate::specs::Written::over))]
 pub(crate) fn word<W: Writing>(text: &[u8], out: &mut [u8]) -> Option<usize>
     ensures value { (result, out.new) ≡ put_of (dashed W.bytes text.now) out.old }
     ensures counts { IfSome result (λ n. Counts n out.new) }
