@@ -1,4 +1,4 @@
-// Standard input for the programs: all of it, as far as a buffer of the program's has room, and its lines.
+// Standard input for the programs: all of it, as far as a buffer of the program's has room.
 #![tactic(auto)]
 
 ghost use Rattle.std.specs.Prelude.{◌≡◌, ◌<◌, length, take, IfOk, EachIndex, slice_index};
@@ -8,12 +8,12 @@ ghost use Rattle.std.specs.Io.KnownBytes.{Consumes, IsAtEnd};
 use std::io;
 use std::io::Read;
 
-// 65,536 zeros. The ensures keeps the prover from counting them where the buffer is lent.
-pub fn large_buffer() -> [u8; 65536]
-    ensures room { 65536 ≡ length result }
+// N zeros. The ensures keeps the prover from counting them where the buffer is lent.
+pub fn large_buffer<const N: usize>() -> [u8; N]
+    ensures room { N ≡ length result }
     ensures zeros { EachIndex result (λ k. slice_index result k ≡ 0) }
 {
-    [0u8; 65536]
+    [0u8; N]
 }
 
 // Reads until the buffer is full or the input ends, and answers how many bytes it put at the buffer's start.
@@ -31,14 +31,4 @@ pub fn read_full<R: Read>(from: &mut R, buf: &mut [u8]) -> io::Result<usize>
         done += n;
     }
     Ok(done)
-}
-
-// Hands each line of a text, without its line feed, to `each`, until one fails.
-pub fn each_line<F: FnMut(&[u8]) -> io::Result<()>>(text: &[u8], mut each: F) -> io::Result<()>
-    requires { F.IsAlwaysCallable each }
-{
-    for line in text.split_inclusive(|b| *b == b'\n') {
-        each(line.strip_suffix(b"\n".as_slice()).unwrap_or(line))?;
-    }
-    Ok(())
 }

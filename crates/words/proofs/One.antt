@@ -7,7 +7,10 @@ use Rattle.std.specs.Prelude.{Option}
 use Rattle.plan.proofs.One.{one_answer}
 use Rattle.plan.specs.declared.FrameInterval.{FrameInterval}
 use Rattle.plan.specs.declared.Numbers.{Numbers}
-use Rattle.words.specs.Owes.{FirstOwes, BehindOwes, IsHeadingOwes, HexOwes, BytesOwes, UnescapeOwes, WordOwes, NumbersOwes, IntervalOwes, BehindThreeOwes}
+use Rattle.words.specs.Owes.{SplitOwes, FirstOwes, BehindOwes, IsHeadingOwes, HexOwes, BytesOwes, UnescapeOwes, WordOwes, NumbersOwes, IntervalOwes, BehindThreeOwes}
+
+pub split_one : (s : List ℕ) (b : ℕ) {r t behind other : List ℕ} → SplitOwes s b r behind → SplitOwes s b t other → (r ≡ t) × (behind ≡ other)
+split_one s b p q = (one_answer p.0 q.0, one_answer p.1 q.1)
 
 pub first_one : (s : List ℕ) {r t : List ℕ} → FirstOwes s r → FirstOwes s t → r ≡ t
 first_one s = one_answer

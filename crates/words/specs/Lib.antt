@@ -1,5 +1,6 @@
 pub mod Escapes
 pub mod Interval
+pub mod Lines
 pub mod Owes
 pub mod Sections
 pub mod Three

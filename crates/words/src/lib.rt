@@ -3,40 +3,44 @@
 #![tactic(auto)]
 
 ghost use Rattle.std.specs.Prelude.{◌≡◌, ◌<◌, IfSome};
-ghost use Rattle.words.specs.Owes.{FirstOwes, BehindOwes, IsHeadingOwes, HexOwes};
+ghost use Rattle.words.specs.Owes.{SplitOwes, FirstOwes, BehindOwes, IsHeadingOwes, HexOwes};
 ghost use Rattle.words.specs.Words.{nibble};
 
 pub mod escapes;
 pub mod interval;
 pub mod section;
+pub mod table;
 pub mod three;
 mod written;
 
 use digits::until;
 
-#[tactic(auto, using(digits::proofs::Parting::until_within, digits::proofs::Parting::until_taken), unfolding(crate::specs::Words::first_word))]
+// What stands before the first b, and what behind it: all and nothing, where there is none.
+#[tactic(auto, using(digits::proofs::Parting::until_within, digits::proofs::Parting::until_taken, digits::proofs::Parting::rest_all))]
+pub fn split(s: &[u8], b: u8) -> (&[u8], &[u8])
+    ensures { SplitOwes s.now b result.0.now result.1.now }
+{
+    let n = until(s, b);
+    if n < s.len() {
+        (&s[..n], &s[n + 1..])
+    } else {
+        (s, &[])
+    }
+}
+
+#[tactic(auto, unfolding(crate::specs::Words::first_word))]
 pub fn first(s: &[u8]) -> &[u8]
     ensures { FirstOwes s.now result.now }
 {
-    let end = until(s, b' ');
-    &s[..end]
+    split(s, b' ').0
 }
 
 // What stands behind the first word and its space.
-#[tactic(auto, using(digits::proofs::Parting::until_within, digits::proofs::Parting::rest_all), unfolding(crate::specs::Words::other_words))]
+#[tactic(auto, unfolding(crate::specs::Words::other_words))]
 pub fn behind(s: &[u8]) -> &[u8]
     ensures { BehindOwes s.now result.now }
 {
-    let n = until(s, b' ');
-    if n < s.len() { &s[n + 1..] } else { &s[n..] }
-}
-
-// Both: the first word, and what stands behind it.
-pub fn split(s: &[u8]) -> (&[u8], &[u8])
-    ensures first { FirstOwes s.now result.0.now }
-    ensures behind { BehindOwes s.now result.1.now }
-{
-    (first(s), behind(s))
+    split(s, b' ').1
 }
 
 #[tactic(auto, unfolding(crate::specs::Words::heading))]
