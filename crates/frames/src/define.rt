@@ -8,7 +8,7 @@ pub fn main(is_inter: bool, words: &[u8]) -> Option<(Definition, &[u8])> {
     let (encodings, rest) = words::split(words, b' ');
     let (predictors, rest) = words::split(rest, b' ');
     let (motor, rest) = words::split(rest, b' ');
-    let fields = parse::fields(encodings, predictors)?;
+    let fields = parse::fields_of(encodings, predictors)?;
     let mut d = Definition::nothing();
     d.numbers = three::numbers(rest)?;
     d.settings = Settings::plain();
@@ -28,7 +28,7 @@ pub fn main(is_inter: bool, words: &[u8]) -> Option<(Definition, &[u8])> {
 pub fn slow(words: &[u8]) -> Option<(Definition, &[u8])> {
     let (encodings, rest) = words::split(words, b' ');
     let (predictors, rest) = words::split(rest, b' ');
-    let fields = parse::fields(encodings, predictors)?;
+    let fields = parse::fields_of(encodings, predictors)?;
     if 16 < fields.n {
         return None;
     }

@@ -9,7 +9,8 @@ use std::io;
 use std::io::Write;
 use words::three;
 
-struct Case<'a> {
+#[derive(Clone, Copy)]
+struct Asked<'a> {
     label: &'a [u8],
     n: usize,
     fields: Fields,
@@ -17,14 +18,14 @@ struct Case<'a> {
     section: &'a [u8],
 }
 
-fn read<'a>(rest: &'a [u8], space: &'a mut [u8; LONGEST]) -> Option<Case<'a>> {
+fn read<'a>(rest: &'a [u8], space: &'a mut [u8; LONGEST]) -> Option<Asked<'a>> {
     let (label, rest) = words::split(rest, b' ');
     let (n, rest) = words::split(rest, b' ');
     let (encodings, rest) = words::split(rest, b' ');
     let (predictors, rest) = words::split(rest, b' ');
     let (motor, rest) = words::split(rest, b' ');
     let n = digits::decimal(n)?;
-    let fields = parse::any_fields(encodings, predictors)?;
+    let fields = parse::any_fields_of(encodings, predictors)?;
     let around = Surroundings {
         numbers: three::numbers(rest)?,
         skipped: 0,
@@ -36,7 +37,7 @@ fn read<'a>(rest: &'a [u8], space: &'a mut [u8; LONGEST]) -> Option<Case<'a>> {
         older: MainFrame::absent(),
     };
     let k = words::section::bytes(three::behind_three(rest), space)?;
-    Some(Case {
+    Some(Asked {
         label,
         n,
         fields,

@@ -7,7 +7,8 @@ use reader::Cursor;
 use std::io;
 use std::io::Write;
 
-struct Case<'a> {
+#[derive(Clone, Copy)]
+struct Asked<'a> {
     label: &'a [u8],
     definition: Definition,
     last: MainFrame,
@@ -15,7 +16,7 @@ struct Case<'a> {
     section: &'a [u8],
 }
 
-fn read<'a>(is_inter: bool, rest: &'a [u8], space: &'a mut [u8; LONGEST]) -> Option<Case<'a>> {
+fn read<'a>(is_inter: bool, rest: &'a [u8], space: &'a mut [u8; LONGEST]) -> Option<Asked<'a>> {
     let (label, rest) = words::split(rest, b' ');
     let (definition, rest) = define::main(is_inter, rest)?;
     let n = definition.main.fields();
@@ -28,7 +29,7 @@ fn read<'a>(is_inter: bool, rest: &'a [u8], space: &'a mut [u8; LONGEST]) -> Opt
         rest = behind;
     }
     let k = words::section::bytes(rest, space)?;
-    Some(Case {
+    Some(Asked {
         label,
         definition,
         last,

@@ -34,7 +34,7 @@ pub fn motor(word: &[u8], n: usize) -> Option<usize> {
 }
 
 // A digit for each code, up to a largest one; - for no codes.
-fn codes(word: &[u8], top: u8) -> Option<Codes>
+fn codes_of(word: &[u8], top: u8) -> Option<Codes>
     ensures { IfSome result (λ r. r.n ≤ 62) }
 {
     let mut codes = [0u8; 62];
@@ -60,8 +60,8 @@ fn codes(word: &[u8], top: u8) -> Option<Codes>
 fn fields_up_to(encodings: &[u8], top: u8, predictors: &[u8], top_predictor: u8) -> Option<Fields>
     ensures { IfSome result (λ r. r.n ≤ 62) }
 {
-    let encodings = codes(encodings, top)?;
-    let predictors = codes(predictors, top_predictor)?;
+    let encodings = codes_of(encodings, top)?;
+    let predictors = codes_of(predictors, top_predictor)?;
     if encodings.n != predictors.n {
         return None;
     }
@@ -73,13 +73,13 @@ fn fields_up_to(encodings: &[u8], top: u8, predictors: &[u8], top_predictor: u8)
 }
 
 // Up to the largest encoding, and the largest predictor.
-pub fn fields(encodings: &[u8], predictors: &[u8]) -> Option<Fields>
+pub fn fields_of(encodings: &[u8], predictors: &[u8]) -> Option<Fields>
     ensures { IfSome result (λ r. r.n ≤ 62) }
 {
     fields_up_to(encodings, 9, predictors, 11)
 }
 
 // Codes that there are not too.
-pub fn any_fields(encodings: &[u8], predictors: &[u8]) -> Option<Fields> {
+pub fn any_fields_of(encodings: &[u8], predictors: &[u8]) -> Option<Fields> {
     fields_up_to(encodings, 15, predictors, 15)
 }

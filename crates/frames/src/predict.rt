@@ -5,7 +5,8 @@ use std::io;
 use std::io::Write;
 use words::three;
 
-struct Case {
+#[derive(Clone, Copy)]
+struct Asked {
     predictor: u8,
     signed: bool,
     before: Before,
@@ -22,7 +23,7 @@ fn past(word: &[u8]) -> Option<Option<u32>> {
     parse::pattern(word).map(Some)
 }
 
-fn read(rest: &[u8]) -> Option<Case> {
+fn read(rest: &[u8]) -> Option<Asked> {
     let (predictor, rest) = words::split(rest, b' ');
     let (encoding, rest) = words::split(rest, b' ');
     let (last, rest) = words::split(rest, b' ');
@@ -37,7 +38,7 @@ fn read(rest: &[u8]) -> Option<Case> {
     if motor.contains(&b' ') {
         return None;
     }
-    Some(Case {
+    Some(Asked {
         predictor: parse::code(predictor)?,
         signed: predictor::is_signed(parse::code(encoding)?),
         before: Before {

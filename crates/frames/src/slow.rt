@@ -5,17 +5,18 @@ use reader::Cursor;
 use std::io;
 use std::io::Write;
 
-struct Case<'a> {
+#[derive(Clone, Copy)]
+struct Asked<'a> {
     label: &'a [u8],
     definition: Definition,
     section: &'a [u8],
 }
 
-fn read<'a>(rest: &'a [u8], space: &'a mut [u8; LONGEST]) -> Option<Case<'a>> {
+fn read<'a>(rest: &'a [u8], space: &'a mut [u8; LONGEST]) -> Option<Asked<'a>> {
     let (label, rest) = words::split(rest, b' ');
     let (definition, rest) = define::slow(rest)?;
     let k = words::section::bytes(rest, space)?;
-    Some(Case {
+    Some(Asked {
         label,
         definition,
         section: &space[..k],

@@ -8,20 +8,21 @@ use words::interval;
 use words::three;
 use words::three::behind_three;
 
-struct Case<'a> {
+#[derive(Clone, Copy)]
+struct Asked<'a> {
     label: &'a [u8],
     numbers: Numbers,
     settings: Settings,
     log: &'a [u8],
 }
 
-fn read<'a>(rest: &'a [u8], space: &'a mut [u8; LONGEST]) -> Option<Case<'a>> {
+fn read<'a>(rest: &'a [u8], space: &'a mut [u8; LONGEST]) -> Option<Asked<'a>> {
     let (label, rest) = words::split(rest, b' ');
     let numbers = three::numbers(rest)?;
     let rest = behind_three(rest);
     let interval = interval::read(rest)?;
     let n = escapes::unescape(behind_three(rest), space)?;
-    Some(Case {
+    Some(Asked {
         label,
         numbers,
         settings: Settings { interval },

@@ -5,7 +5,8 @@ use std::io;
 use std::io::Write;
 use words::escapes;
 
-struct Case<'a> {
+#[derive(Clone, Copy)]
+struct Asked<'a> {
     label: &'a [u8],
     sort: Sort,
     k: usize,
@@ -27,7 +28,7 @@ fn read<'a>(
     main_space: &'a mut [u8; LONGEST],
     slow_space: &'a mut [u8; LONGEST],
     log_space: &'a mut [u8; LONGEST],
-) -> Option<Case<'a>> {
+) -> Option<Asked<'a>> {
     let (label, rest) = words::split(rest, b' ');
     let (sort, rest) = words::split(rest, b' ');
     let (k, rest) = words::split(rest, b' ');
@@ -38,7 +39,7 @@ fn read<'a>(
     let main = escapes::word(main, main_space)?;
     let slow = escapes::word(slow, slow_space)?;
     let log = escapes::unescape(log, log_space)?;
-    Some(Case {
+    Some(Asked {
         label,
         sort,
         k,

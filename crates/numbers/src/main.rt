@@ -17,7 +17,7 @@ use show::Answer;
 
 // What the reader of a case's first word answers: an encoding by its number, the two others by a word.
 // Only encoding 6 is told how many fields its group has.
-fn answer(reader: &[u8], group: usize, place: usize, s: &[u8]) -> Option<Answer> {
+fn read_by(reader: &[u8], group: usize, place: usize, s: &[u8]) -> Option<Answer> {
     let from = Cursor { at: place };
     if reader == b"6".as_slice() {
         return Some(Answer::Group(tagged_variable(s, from, group), group));
@@ -50,7 +50,7 @@ fn answer_of(line: &[u8]) -> Option<Answer> {
     let place = digits::decimal(place)?;
     let mut space = [0u8; 256];
     let n = words::section::bytes(digits, &mut space)?;
-    answer(reader, group, place, &space[..n])
+    read_by(reader, group, place, &space[..n])
 }
 
 // Answers whether the line is a case, and prints nothing where it is not.

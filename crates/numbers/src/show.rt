@@ -3,6 +3,7 @@
 use reader::{Cursor, Fault, Group};
 use std::fmt;
 
+#[derive(Clone, Copy)]
 pub enum Answer {
     Signed(Result<(u32, Cursor), Fault>),
     Unsigned(Result<(u32, Cursor), Fault>),

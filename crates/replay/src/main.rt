@@ -14,6 +14,7 @@ const LONGEST: usize = 8192;
 
 // What stands of the logs behind it: what the last line `lists` says, the first bytes of each and its header numbers, and what the last line `set`
 // does, its settings.
+#[derive(Drop)]
 struct Common {
     log: [u8; LONGEST],
     length: usize,
