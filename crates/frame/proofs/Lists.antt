@@ -1,12 +1,10 @@
 -- Fields read by lists of their own: numbers in 62 rooms make the values that the numbers make, and what the code answers is what is read.
-use Rattle.std.proofs.Common.{◌≡◌, ℕ, ◌<◌, ◌≤◌, Bool, true, false, cond, not, List, length, get_or, take, replicate, sym, refl}
-use Rattle.std.proofs.Common.{ap, ◌∙◌, ap₂, arith, length-take}
-use mathlib.Core.Option.{Option}
+use Rattle.std.proofs.Common.{◌≡◌, ℕ, ◌<◌, ◌≤◌, Bool, true, false, cond, not, List, length, get_or, take, replicate, sym, refl, Option}
+use Rattle.std.proofs.Common.{ap, ◌∙◌, arith, length-take}
 use lib.Seq.{sets-eq, take-append-le}
 use borrow.Author.Tests.{not-true, not-false}
 use Rattle.plan.specs.Owes.{AreSoundOwes}
 use Rattle.plan.proofs.Sound.{fields_few}
-use Rattle.predictor.specs.Owes.{given}
 use Rattle.raws.specs.declared.Reading.{Reading}
 use Rattle.raws.specs.Groups.{numbers}
 use Rattle.raws.specs.Owes.{MainFieldsOwes}
@@ -22,18 +20,12 @@ use Rattle.reader.proofs.Every.{Counts, Every, drop_each}
 use Rattle.frame.specs.declared.fields.Context.{Context}
 use Rattle.frame.specs.declared.fields.FieldReading.{FieldReading}
 use Rattle.frame.specs.declared.fields.Taken.TheVariants.{Next, Cut, Corrupt, Refused}
-use Rattle.frame.specs.Earlier.{is_there, laid}
+use Rattle.frame.specs.Earlier.{laid}
 use Rattle.frame.specs.Lists.{field_values, fields_read, fields_in, last_in, older_in, no_fields, fields_at, by_lists}
 use Rattle.frame.specs.Owes.{ReadFieldsOwes}
 use Rattle.frame.specs.Values.{Fields, values_of}
-use Rattle.frame.proofs.Bodies.{given_values}
 
 -- ## Values
-
--- by the frames that are there
-pub values_are : (f : Fields) (x : Context) (raws : List ℕ) {t u : Bool} {r : List ℕ} → r ≡ laid f (given t x.last.values) (given u x.older.values) raws
-    → t ≡ is_there x.last.mark → u ≡ is_there x.older.mark → r ≡ laid f (last_in x) (older_in x) raws
-values_are f x raws r e g = r ∙ ap₂ (λ last older. laid f last older raws) (given_values x.last e) (given_values x.older g)
 
 -- values are made of no more numbers than there are predictors, so that zeros behind these make no difference
 pub padded_values : (f : Fields) (last older : Option (List ℕ)) (vs : List ℕ) → (length f.predictors ≤ length vs) × (length vs ≤ 62)

@@ -1,6 +1,5 @@
 -- One input admits one answer: any two answers that a promise of this crate admits are equal.
-use Rattle.std.proofs.Common.{◌≡◌, ℕ, List, ap}
-use mathlib.Core.Option.{none}
+use Rattle.std.proofs.Common.{◌≡◌, ℕ, List, ap, None}
 use Rattle.plan.specs.declared.Definition.{Definition}
 use Rattle.raws.specs.declared.Raw.{Raw}
 use Rattle.reader.specs.declared.Cursor.{Cursor}
@@ -22,7 +21,7 @@ pub with_one : (h : Head) (vs : List ℕ) {r t : MainFrame} → WithOwes h vs r 
 with_one h vs = one_answer
 
 pub intra_one : (d : Definition) (last : MainFrame) (x : Raw) {r t : MainFrame} → IntraOwes d last x r → IntraOwes d last x t → r ≡ t
-intra_one d last x f g = one_answer (f none) (g none)
+intra_one d last x f g = one_answer (f None) (g None)
 
 pub inter_one : (d : Definition) (last older : MainFrame) (x : Raw) {r t : MainFrame} → InterOwes d last older x r → InterOwes d last older x t → r ≡ t
 inter_one d last older x = one_answer

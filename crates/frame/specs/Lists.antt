@@ -1,6 +1,5 @@
 -- Fields read at a place by lists of their own, that belong to no definition (document 01, "Module order": `read_field_values`).
-use Rattle.std.specs.Prelude.{ℕ, Bool, cond, List, []}
-use Rattle.std.proofs.Math.Option.{Option}
+use Rattle.std.specs.Prelude.{ℕ, Bool, cond, List, [], Option}
 use Rattle.plan.specs.Sound.{sound_fields}
 use Rattle.raws.specs.Groups.{numbers}
 use Rattle.reader.specs.declared.Cursor.{Cursor}

@@ -1,6 +1,5 @@
 -- What each public function of this crate owes.
-use Rattle.std.specs.Prelude.{◌≡◌, ℕ, List, take}
-use Rattle.std.proofs.Math.Option.{Option}
+use Rattle.std.specs.Prelude.{◌≡◌, ℕ, List, take, Option}
 use Rattle.plan.specs.declared.Definition.{Definition}
 use Rattle.plan.specs.Plan.{shape, rules}
 use Rattle.raws.specs.declared.Raw.{Raw}

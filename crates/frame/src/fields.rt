@@ -5,7 +5,7 @@ ghost use Rattle.frame.specs.Earlier.{laid};
 ghost use Rattle.frame.specs.Lists.{fields_in, last_in, older_in, no_fields};
 ghost use Rattle.frame.specs.Owes.{ReadFieldsOwes};
 
-use crate::{MainFrame, is_there, values_of};
+use crate::{FieldLists, MainFrame, values_of};
 use predictor::Surroundings;
 use raws::Raw;
 use reader::{Cursor, Step};
@@ -66,25 +66,20 @@ fn values(
 {
     let last = context.last;
     let older = context.older;
-    let last_mark = last.mark;
-    let older_mark = older.mark;
-    let has_last = is_there(last_mark);
-    let has_older = is_there(older_mark);
     let last_values = last.values;
     let older_values = older.values;
-    let around = context.around;
-    let fields = raw.fields;
+    let fields = FieldLists {
+        predictors: &predictors[..n],
+        encodings: &encodings[..n],
+        motor: context.motor,
+        around: context.around,
+    };
     let mut values = [0u32; 62];
     values_of(
-        &predictors[..n],
-        &encodings[..n],
-        context.motor,
-        around,
-        &fields,
-        has_last,
-        &last_values,
-        has_older,
-        &older_values,
+        fields,
+        last.head().values(&last_values),
+        older.head().values(&older_values),
+        &raw.fields,
         &mut values,
     );
     values
@@ -102,7 +97,7 @@ pub fn read_fields(
     ensures { ReadFieldsOwes n encodings predictors context s.now from result }
 {
     let around = context.around;
-    if !plan::are_sound(n, predictors, encodings, context.motor, around.numbers) {
+    if !plan::are_sound(n, &predictors, &encodings, context.motor, around.numbers) {
         return none(Taken::Refused(10, 0));
     }
     let reading = raws::main_fields(n, encodings, s, from, 0, 0);
