@@ -6,6 +6,7 @@ use mathlib.Core.List.{List}
 use mathlib.Core.Path.{◌≡◌, refl, ap, ◌∙◌}
 use lib.ListN.{length, replicate}
 use Rattle.plan.specs.declared.Definition.{Definition}
+use Rattle.plan.specs.Sound.{sound}
 use Rattle.history.specs.declared.Heads.{Heads}
 use Rattle.extent.specs.declared.Look.{Look}
 use Rattle.extent.specs.Owes.{SightOwes}
@@ -19,12 +20,11 @@ use Rattle.section.specs.Answers.{Told, told, handed}
 use Rattle.section.specs.Lent.{history_beside}
 use Rattle.section.specs.Lent as lent
 use Rattle.section.specs.Walk.{settled, over}
-use Rattle.section.specs.Fits.{Rooms}
 use Rattle.section.specs.Owes.{HandOutOwes}
 use Rattle.section.specs.Refusals.{admitted}
 use Rattle.section.proofs.Admitted.{admitted_sound}
 use Rattle.section.proofs.Alike.{is_going}
-use Rattle.section.proofs.Fields.{handed_out}
+use Rattle.section.proofs.Fields.{sane, handed_out}
 use Rattle.section.proofs.Lent.{light_whole}
 use Rattle.calls.specs.declared.quick.Stepped.{Stepped}
 use Rattle.calls.specs.Lent.{called_of, StepsIn, over_beside}
@@ -60,7 +60,15 @@ pub ready_light : (d : Definition) (s : List ℕ) (w : Walk) {l : Light} {v : Va
     → Ready d s (lent.walk_of l v) false
 ready_light d s w e f kept = rw (light_whole w e f) (ready_first d s w kept)
 
--- a step of a walk that is taken apart, handed out to a buffer
+-- a step handed out to a buffer is the call
+pub stepped_out : (d : Definition) (s : List ℕ) {l : Light} (v : Values) → sound d ≡ true → (x : Stepped) (u : Values) → StepsIn d l s v x u
+    → (out : List ℕ) (r : Looked) {after : List ℕ} → HandOutOwes d (record { answer = x.answer; walk = x.walk }) u out r after
+    → told r after ≡ handed (called d s (lent.walk_of l v)) out
+stepped_out d s {l} v h x u st out r owes =
+    let w = lent.walk_of l v in
+    handed_out d (sane d h) (called d s w) (called_full d h s w) (record { answer = x.answer; walk = x.walk }) u st.tells out r owes
+
+-- the same of a walk that is taken apart
 module _ (d : Definition) (s : List ℕ) (w : Walk) {l : Light} {v : Values} (parts : l ≡ lent.light_of w) (beside : v ≡ lent.values_of w) where
   pub apart_admitted : admitted d (length s) w ≡ true → admitted d (length s) (lent.walk_of l v) ≡ true
   apart_admitted h = rw (light_whole w parts beside) h
@@ -68,14 +76,12 @@ module _ (d : Definition) (s : List ℕ) (w : Walk) {l : Light} {v : Values} (pa
   pub apart_barren : {barren : Bool} → Barren barren s w.tally.place → Barren barren s l.tally.place
   apart_barren right = rw parts right
 
-  pub joined : admitted d (length s) w ≡ true → (out : List ℕ) → Rooms d (length out) → (x : Stepped) (u : Values) → StepsIn d l s v x u
+  pub joined : admitted d (length s) w ≡ true → (out : List ℕ) (x : Stepped) (u : Values) → StepsIn d l s v x u
       → (r : Looked) {after : List ℕ} → HandOutOwes d (record { answer = x.answer; walk = x.walk }) u out r after
       → Steps d w s out (record { looked = r; barren = x.barren }) after
-  joined h out rooms x u st r owes =
-      let full = called_full d (admitted_sound d (length s) w h) s w in
-      let whole = ap (λ w. handed (called d s w) (replicate 62 0)) (light_whole w parts beside) in
+  joined h out x u st r owes =
       let left : r.walk ≡ lent.walk_of x.walk u = ap (λ (y : Told). y.walk) owes in
       record {
-        tells = handed_out d rooms (called d s w) full (record { answer = x.answer; walk = x.walk }) u (st.tells ∙ whole) out r owes;
+        tells = stepped_out d s v (admitted_sound d (length s) w h) x u st out r owes ∙ ap (λ w. handed (called d s w) out) (light_whole w parts beside);
         barren = rw left st.barren;
       }

@@ -117,7 +117,7 @@ module _ (d : Definition) {room : ℕ} (rooms : Rooms d room) where
 -- ## Under a sound definition
 
 module _ (d : Definition) (h : sound d ≡ true) where
-  sane : Rooms d 62
+  pub sane : Rooms d 62
   sane = sound_rooms d h (needed_rooms d h)
 
   pub hands_out_few : (a : Answer) → hands_out d a ≤ 62

@@ -1,6 +1,6 @@
 // What a look does to a walk whose values stand in lent rooms: the faster form of `settle`, for whole walks.
 // Only small structs go by value, so that nothing is copied but the values of an accepted main frame. The fields go to lent rooms too, 0 behind the last.
-ghost use Rattle.std.specs.Prelude.{◌≡◌, [], length, replicate};
+ghost use Rattle.std.specs.Prelude.{◌≡◌, [], replicate};
 ghost use Rattle.frame.specs.Parts.{raw_of};
 ghost use Rattle.section.specs.Answers.{handed};
 ghost use Rattle.section.specs.Fits.{Fits, Rooms};
@@ -76,7 +76,7 @@ impl Light {
 impl Settled {
     // With the values: the whole walk. Its fields go to the lent buffer.
     pub fn hand_out(self, d: Definition, values: &Values, out: &mut [u32]) -> Looked
-        requires { Rooms d (length out.old) }
+        requires { Rooms d 62 }
         ensures { HandOutOwes d self values.now out.old result out.new }
     {
         let answer = self.answer;

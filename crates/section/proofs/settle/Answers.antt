@@ -11,6 +11,9 @@ use Rattle.section.proofs.settle.Goals as goal
 pub settle_in-settled-requires : goal.settle_in-settled-requires
 settle_in-settled-requires c = (rw c.light.ensures c.requires.0, most _ c.requires.1)
 
+pub hand_out-requires : goal.hand_out-requires
+hand_out-requires c = most _ c.requires.1
+
 pub returns : goal.returns
 returns c =
     handed_out _ c.requires.1 _ (settled_full _ c.requires.1 c.args.l c.args.length c.args.w) _ _
