@@ -8,8 +8,7 @@ use std::io::{BufWriter, Write};
 mod define;
 mod earlier;
 mod fields;
-mod inter;
-mod intra;
+mod main_frame;
 mod parse;
 mod predict;
 mod show;
@@ -20,46 +19,23 @@ const LONGEST: usize = 512;
 
 // Answers whether the line is a case, and prints nothing where it is not.
 fn case(out: &mut impl Write, line: &[u8]) -> io::Result<bool> {
-    let rest = words::behind(line);
-    match words::first(line) {
+    let (kind, rest) = words::split(line, b' ');
+    match kind {
         b"predict" => predict::case(out, line, rest),
-        b"intra" => intra::case(out, rest),
-        b"inter" => inter::case(out, rest),
+        b"intra" => main_frame::case(out, false, rest),
+        b"inter" => main_frame::case(out, true, rest),
         b"slow" => slow::case(out, rest),
         b"fields" => fields::case(out, rest),
         _ => Ok(false),
     }
 }
 
-// A line that begins with # is a heading of the table, and is copied.
-fn line(out: &mut impl Write, text: &[u8]) -> io::Result<()> {
-    if words::is_heading(text) {
-        show::text(out, text)?;
-    } else if !case(out, text)? {
-        show::text(out, b"? ")?;
-        show::text(out, text)?;
-    }
-    show::text(out, b"\n")
-}
-
-fn lines(out: &mut impl Write, text: &[u8]) -> io::Result<()> {
-    let mut at = 0;
-    while at < text.len() {
-        let rest = &text[at..];
-        let n = digits::until(rest, b'\n');
-        line(out, &rest[..n])?;
-        at += n;
-        if at < text.len() {
-            at += 1;
-        }
-    }
-    Ok(())
-}
-
 fn main(rt: HostRuntime) -> io::Result<()> {
-    let mut text = terminal::large_buffer();
+    let mut text = terminal::large_buffer::<65536>();
     let n = terminal::read_full(&mut rt.stdin(), &mut text)?;
     let mut out = BufWriter::new(rt.alloc(), rt.stdout())?;
-    lines(&mut out, &text[..n])?;
+    words::table::each_line(&text[..n], |line| {
+        words::table::answer_line(&mut out, line, |out, line| case(out, line))
+    })?;
     out.flush()
 }

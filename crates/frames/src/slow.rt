@@ -1,40 +1,40 @@
 // A case `slow LABEL ENCODINGS PREDICTORS T B M BYTES`: a slow frame, which has no history.
 use crate::{LONGEST, define, show};
 use plan::Definition;
-use reader::{Cursor, Step};
+use reader::Cursor;
 use std::io;
 use std::io::Write;
 
-fn answer(out: &mut impl Write, d: Definition, s: &[u8]) -> io::Result<()> {
-    let reading = raws::slow(d, s, Cursor { at: 0 });
-    let step = reading.step;
-    let raw = reading.raw;
-    match step {
-        Step::Next(behind) => show::fields(out, frame::slow(d, raw), d.slow.n, behind),
-        Step::Cut => show::text(out, b"cut"),
-        Step::Corrupt => show::text(out, b"corrupt"),
-    }
+#[derive(Clone, Copy)]
+struct Asked<'a> {
+    label: &'a [u8],
+    definition: Definition,
+    section: &'a [u8],
+}
+
+fn read<'a>(rest: &'a [u8], space: &'a mut [u8; LONGEST]) -> Option<Asked<'a>> {
+    let (label, rest) = words::split(rest, b' ');
+    let (definition, rest) = define::slow(rest)?;
+    let k = words::section::bytes(rest, space)?;
+    Some(Asked {
+        label,
+        definition,
+        section: &space[..k],
+    })
 }
 
 // Answers whether the line is a case, and prints nothing where it is not.
 pub fn case(out: &mut impl Write, rest: &[u8]) -> io::Result<bool> {
-    let label = words::first(rest);
-    let behind_label = words::behind(rest);
-    let behind_encodings = words::behind(behind_label);
-    let behind_predictors = words::behind(behind_encodings);
-    let defined = define::slow(behind_label);
     let mut space = [0u8; LONGEST];
-    let section = words::section::bytes(words::three::behind_three(behind_predictors), &mut space);
-    if !defined.is {
+    let Some(case) = read(rest, &mut space) else {
         return Ok(false);
+    };
+    let d = case.definition;
+    out.write_all(case.label)?;
+    out.write_all(b" = ")?;
+    match raws::slow(d, case.section, Cursor { at: 0 }) {
+        Ok((raw, behind)) => show::fields(out, frame::slow(d, raw), d.slow.n, behind)?,
+        Err(why) => show::fault(out, why)?,
     }
-    if !section.is_hex {
-        return Ok(false);
-    }
-    let n = section.length;
-    let d = defined.definition;
-    show::text(out, label)?;
-    show::text(out, b" = ")?;
-    answer(out, d, &space[..n])?;
     Ok(true)
 }

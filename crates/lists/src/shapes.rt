@@ -3,28 +3,30 @@
 // lists 3, 4, 5, the last turning fastest: a dot for lists that pass, else the refusal's number.
 ghost use Rattle.std.specs.Prelude.{◌<◌};
 
-use crate::show;
-use definition::Verdict;
 use items::{Lists, MainLists, SlowLists, Stretch};
 use std::io;
 use std::io::Write;
 
 // The first items of a list of names, and one more than `more`.
-fn some_names(more: usize) -> Stretch {
-    match more {
-        0 => Stretch::At(0, 13),
-        1 => Stretch::At(0, 18),
-        2 => Stretch::At(0, 20),
-        3 => Stretch::At(0, 22),
-        _ => Stretch::At(0, 24),
-    }
+fn some_names(more: usize) -> Option<Stretch> {
+    let end = match more {
+        0 => 13,
+        1 => 18,
+        2 => 20,
+        3 => 22,
+        _ => 24,
+    };
+    Some(Stretch { start: 0, end })
 }
 
 // The same of a list of digits that starts at a place.
-fn some_digits(start: usize, more: usize) -> Stretch
+fn some_digits(start: usize, more: usize) -> Option<Stretch>
     requires { (start < 64) × (more < 5) }
 {
-    Stretch::At(start, start + 2 * more + 1)
+    Some(Stretch {
+        start,
+        end: start + 2 * more + 1,
+    })
 }
 
 fn shape(out: &mut impl Write, line: usize, column: usize) -> io::Result<()>
@@ -40,34 +42,25 @@ fn shape(out: &mut impl Write, line: usize, column: usize) -> io::Result<()>
         signs: some_digits(25, column % 5),
     };
     let slow = SlowLists {
-        names: Stretch::Absent,
-        predictors: Stretch::Absent,
-        encodings: Stretch::Absent,
-        signs: Stretch::Absent,
+        names: None,
+        predictors: None,
+        encodings: None,
+        signs: None,
     };
-    let lists = Lists { main, slow };
-    let verdict = definition::define_plainly(text, lists).verdict;
-    match verdict {
-        Verdict::Pass => show::text(out, b"."),
-        Verdict::Refused(why) => show::code(out, why.paper().number),
+    match definition::define_plainly(text, Lists { main, slow }).verdict {
+        Ok(()) => out.write_all(b"."),
+        Err(why) => write!(out, "{}", why.paper().number),
     }
-}
-
-fn shapes(out: &mut impl Write, line: usize) -> io::Result<()>
-    requires { line < 125 }
-{
-    for column in 0..125 {
-        shape(out, line, column)?;
-    }
-    Ok(())
 }
 
 pub fn all(out: &mut impl Write) -> io::Result<()> {
     for line in 0..125 {
         if 0 < line {
-            show::text(out, b"\n")?;
+            out.write_all(b"\n")?;
         }
-        shapes(out, line)?;
+        for column in 0..125 {
+            shape(out, line, column)?;
+        }
     }
     Ok(())
 }

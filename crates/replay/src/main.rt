@@ -2,186 +2,102 @@
 // A log is a line, so that vectors are data and not code: vectors/README.md says what logs there are and how they are made.
 #![tactic(auto)]
 
-ghost use Rattle.std.specs.Prelude.{◌≡◌, ◌≤◌, length, IfOk};
+ghost use Rattle.std.specs.Prelude.{◌≤◌};
 
 use plan::{Definition, Numbers, Settings};
 use std::io;
 use std::io::{BufWriter, Write};
-use words::interval::Interval;
-use words::three::Three;
 use words::{escapes, interval, three};
 
 // The longest log.
 const LONGEST: usize = 8192;
 
-// What the last line `lists` says of the logs behind it: the first so many bytes of their buffer, and their header numbers; and what the last
-// line `set` does, their settings.
-#[derive(Clone, Copy)]
+// What stands of the logs behind it: what the last line `lists` says, the first bytes of each and its header numbers, and what the last line `set`
+// does, its settings.
+#[derive(Drop)]
 struct Common {
+    log: [u8; LONGEST],
     length: usize,
+    ghost within: { length ≤ 8192 },
     numbers: Numbers,
     settings: Settings,
 }
 
-fn text(out: &mut impl Write, s: &[u8]) -> io::Result<()> {
-    out.write_all(s)
-}
-
-// A line that is no case.
-fn refuse(out: &mut impl Write, line: &[u8]) -> io::Result<()> {
-    text(out, b"? ")?;
-    text(out, line)?;
-    text(out, b"\n")
-}
-
-// A line `lists T B M TEXT`, which puts TEXT in front of the buffer and prints nothing. One that is not written so leaves all as it was.
-fn lists(
-    out: &mut impl Write,
-    line: &[u8],
-    common: Common,
-    log: &mut [u8; LONGEST],
-) -> io::Result<Common>
-    requires { common.length ≤ 8192 }
-    ensures { IfOk result (λ r. r.length ≤ 8192) }
-{
-    let rest = words::behind(line);
-    let three = three::numbers(rest);
-    let Three::Are(numbers) = three else {
-        refuse(out, line)?;
-        return Ok(common);
-    };
-    let lists = escapes::unescape(three::behind_three(rest), log);
-    if !lists.is_right {
-        refuse(out, line)?;
-        return Ok(common);
-    }
-    let settings = common.settings;
-    Ok(Common {
-        length: lists.length,
-        numbers,
-        settings,
-    })
-}
-
-fn with(common: Common, settings: Settings) -> Common
-    requires { common.length ≤ 8192 }
-    ensures { result.length ≤ 8192 }
-{
-    let numbers = common.numbers;
-    Common {
-        length: common.length,
-        numbers,
-        settings,
-    }
-}
-
-// A line `set plain` or `set interval I N D`, which prints nothing. One that is not written so leaves all as it was.
-fn set(out: &mut impl Write, line: &[u8], common: Common) -> io::Result<Common>
-    requires { common.length ≤ 8192 }
-    ensures { IfOk result (λ r. r.length ≤ 8192) }
-{
-    let rest = words::behind(line);
-    if rest == b"plain".as_slice() {
-        return Ok(with(common, Settings::plain()));
-    }
-    let three = words::behind(rest);
-    let read = interval::read(three);
-    let is_alone = three::behind_three(three).len() == 0;
-    if words::first(rest) != b"interval".as_slice() {
-        refuse(out, line)?;
-        return Ok(common);
-    }
-    if !is_alone {
-        refuse(out, line)?;
-        return Ok(common);
-    }
-    let Interval::Is(interval) = read else {
-        refuse(out, line)?;
-        return Ok(common);
-    };
-    Ok(with(common, Settings { interval }))
-}
-
-// A case `LABEL REST`: the log goes on with REST behind the lists.
-fn case(out: &mut impl Write, line: &[u8], common: Common, log: &mut [u8]) -> io::Result<()>
-    requires { common.length ≤ length log.old }
-{
-    let label = words::first(line);
-    if label.len() == 0 {
-        return refuse(out, line);
-    }
-    let start = common.length;
-    let rest = escapes::unescape(words::behind(line), &mut log[start..]);
-    if !rest.is_right {
-        return refuse(out, line);
-    }
-    let n = start + rest.length;
-    let numbers = common.numbers;
-    let settings = common.settings;
-    text(out, b"= ")?;
-    text(out, label)?;
-    text(out, b"\n")?;
-    session::print_with(out, &log[..n], numbers, settings)
-}
-
-// A line that begins with # is a heading of the table, and is copied.
-fn line(
-    out: &mut impl Write,
-    s: &[u8],
-    common: Common,
-    log: &mut [u8; LONGEST],
-) -> io::Result<Common>
-    requires { common.length ≤ 8192 }
-    ensures { IfOk result (λ r. r.length ≤ 8192) }
-{
-    if words::is_heading(s) {
-        text(out, s)?;
-        text(out, b"\n")?;
-        return Ok(common);
-    }
-    if words::first(s) == b"lists".as_slice() {
-        return lists(out, s, common, log);
-    }
-    if words::first(s) == b"set".as_slice() {
-        return set(out, s, common);
-    }
-    case(out, s, common, log)?;
-    Ok(common)
-}
-
-fn lines(out: &mut impl Write, s: &[u8]) -> io::Result<()> {
-    let mut log = [0u8; LONGEST];
-    let numbers = Definition::nothing().numbers;
-    let mut common = Common {
-        length: 0,
-        numbers,
-        settings: Settings::plain(),
-    };
-    let mut at = 0;
-    while at < s.len() {
-        let rest = &s[at..];
-        let n = digits::until(rest, b'\n');
-        let next = line(out, &rest[..n], common, &mut log)?;
-        common = next;
-        at += n;
-        if at < s.len() {
-            at += 1;
+impl Common {
+    fn new() -> Common {
+        Common {
+            log: [0u8; LONGEST],
+            length: 0,
+            numbers: Definition::nothing().numbers,
+            settings: Settings::plain(),
         }
     }
-    Ok(())
-}
 
-// The ensures keeps the prover from counting the zeros where the buffer is lent.
-fn space() -> [u8; 1048576]
-    ensures { 1048576 ≡ length result }
-{
-    [0u8; 1048576]
+    // A line `lists T B M TEXT`, which puts TEXT in front of the buffer. One that is not written so leaves all as it was.
+    fn lists(&mut self, rest: &[u8]) -> Option<()> {
+        let numbers = three::numbers(rest)?;
+        self.length = escapes::unescape(three::behind_three(rest), &mut self.log)?;
+        self.numbers = numbers;
+        Some(())
+    }
+
+    // A line `set plain` or `set interval I N D`. One that is not written so leaves all as it was.
+    fn set(&mut self, rest: &[u8]) -> Option<()> {
+        if rest == b"plain".as_slice() {
+            self.settings = Settings::plain();
+            return Some(());
+        }
+        let (what, three) = words::split(rest, b' ');
+        if what != b"interval".as_slice() || !three::behind_three(three).is_empty() {
+            return None;
+        }
+        self.settings.interval = interval::read(three)?;
+        Some(())
+    }
+
+    // A case `LABEL REST`: the log goes on with REST behind the lists. Answers whether the line is one, and prints nothing where it is not.
+    fn case(&mut self, out: &mut impl Write, line: &[u8]) -> io::Result<bool> {
+        let (label, rest) = words::split(line, b' ');
+        if label.is_empty() {
+            return Ok(false);
+        }
+        let start = self.length;
+        let Some(n) = escapes::unescape(rest, &mut self.log[start..]) else {
+            return Ok(false);
+        };
+        out.write_all(b"= ")?;
+        out.write_all(label)?;
+        out.write_all(b"\n")?;
+        session::print_with(out, &self.log[..start + n], self.numbers, self.settings)?;
+        Ok(true)
+    }
+
+    // A line that begins with # is a heading of the table, and is copied; lines `lists` and `set` print nothing.
+    fn line(&mut self, out: &mut impl Write, line: &[u8]) -> io::Result<()> {
+        if words::is_heading(line) {
+            out.write_all(line)?;
+            return out.write_all(b"\n");
+        }
+        let (kind, rest) = words::split(line, b' ');
+        let is_right = match kind {
+            b"lists" => self.lists(rest).is_some(),
+            b"set" => self.set(rest).is_some(),
+            _ => self.case(out, line)?,
+        };
+        if is_right {
+            return Ok(());
+        }
+        out.write_all(b"? ")?;
+        out.write_all(line)?;
+        out.write_all(b"\n")
+    }
 }
 
 fn main(rt: HostRuntime) -> io::Result<()> {
-    let mut space = space();
-    let n = terminal::read_full(&mut rt.stdin(), &mut space)?;
+    let mut text = terminal::large_buffer::<1048576>();
+    let n = terminal::read_full(&mut rt.stdin(), &mut text)?;
     let mut out = BufWriter::new(rt.alloc(), rt.stdout())?;
-    lines(&mut out, &space[..n])?;
+    let mut common = Common::new();
+    words::table::each_line(&text[..n], |line| common.line(&mut out, line))?;
     out.flush()
 }

@@ -5,10 +5,9 @@
 ghost use Rattle.std.specs.Prelude.{true, ◌≡◌, ◌≤◌, length};
 ghost use Rattle.plan.specs.Sound.{sound};
 
-use definition::Verdict;
 use header::Header;
 use plan::{Definition, Numbers, Settings};
-use section::Walk;
+use section::{Answer, Tally, Walk};
 use std::io;
 use std::io::Write;
 
@@ -18,26 +17,38 @@ const HEADER: usize = 16384;
 
 const SECTION: usize = 65536;
 
-// Calls until one is over: a line for each frame, and the last line. The flag goes from call to call, so that a barren search is made once.
-fn walk(out: &mut impl Write, d: Definition, s: &[u8]) -> io::Result<()>
-    requires { sound d ≡ true }
+// Calls until one is over, and hands each answer before to `each`, with the buffer of its frame's values. Answers what the walk has counted.
+// The flag goes from call to call, so that a barren search is made once.
+pub fn each_answer<F: FnMut(Answer, &[u32; 62]) -> io::Result<()>>(
+    d: Definition,
+    s: &[u8],
+    mut each: F,
+) -> io::Result<Tally>
+    requires sound { sound d ≡ true }
+    requires callable { F.IsAlwaysCallable each }
 {
     let mut walk = Walk::start();
     let mut barren = false;
     let mut values = [0u32; 62];
-    show::text(out, b"kind at values\n")?;
     loop {
         let called = calls::step(d, walk, s, barren, &mut values);
-        let looked = called.looked;
-        let answer = looked.answer;
-        let next = looked.walk;
-        if answer.is_over() {
-            return show::end(out, next.tally);
-        }
-        show::frame(out, d, answer, &values)?;
-        walk = next;
+        let answer = called.looked.answer;
+        walk = called.looked.walk;
         barren = called.barren;
+        if answer.is_over() {
+            return Ok(walk.tally);
+        }
+        each(answer, &values)?;
     }
+}
+
+// A line for each frame, and the last line.
+fn walk(out: &mut impl Write, d: Definition, s: &[u8]) -> io::Result<()>
+    requires { sound d ≡ true }
+{
+    out.write_all(b"kind at values\n")?;
+    let tally = each_answer(d, s, |answer, values| show::frame(out, d, answer, values))?;
+    show::end(out, tally)
 }
 
 // Refused lists are not walked with.
@@ -50,13 +61,10 @@ fn defined(
 ) -> io::Result<()>
     requires { header.section ≤ length log.now }
 {
-    let lists = header.lists;
-    let section = header.section;
-    let defined = definition::define(log, lists, numbers, settings);
-    let verdict = defined.verdict;
-    match verdict {
-        Verdict::Pass => walk(out, defined.definition, &log[section..]),
-        Verdict::Refused(why) => show::refusal(out, why),
+    let defined = definition::define(log, header.lists, numbers, settings);
+    match defined.verdict {
+        Ok(()) => walk(out, defined.definition, &log[header.section..]),
+        Err(why) => show::refusal(out, why),
     }
 }
 
@@ -68,17 +76,13 @@ pub fn print_with(
     settings: Settings,
 ) -> io::Result<()> {
     let header = header::read(log);
-    if HEADER < header.section {
-        return show::text(out, b"too long\n");
-    }
-    if SECTION < log.len() - header.section {
-        return show::text(out, b"too long\n");
+    if HEADER < header.section || SECTION < log.len() - header.section {
+        return out.write_all(b"too long\n");
     }
     defined(out, log, header, numbers, settings)
 }
 
 // Prints a log's session with no header numbers and plain settings.
 pub fn print(out: &mut impl Write, log: &[u8]) -> io::Result<()> {
-    let numbers = Definition::nothing().numbers;
-    print_with(out, log, numbers, Settings::plain())
+    print_with(out, log, Definition::nothing().numbers, Settings::plain())
 }

@@ -8,12 +8,12 @@ ghost use Rattle.std.specs.Io.KnownBytes.{Consumes, IsAtEnd};
 use std::io;
 use std::io::Read;
 
-// 65,536 zeros. The ensures keeps the prover from counting them where the buffer is lent.
-pub fn large_buffer() -> [u8; 65536]
-    ensures room { 65536 ≡ length result }
+// N zeros. The ensures keeps the prover from counting them where the buffer is lent.
+pub fn large_buffer<const N: usize>() -> [u8; N]
+    ensures room { N ≡ length result }
     ensures zeros { EachIndex result (λ k. slice_index result k ≡ 0) }
 {
-    [0u8; 65536]
+    [0u8; N]
 }
 
 // Reads until the buffer is full or the input ends, and answers how many bytes it put at the buffer's start.

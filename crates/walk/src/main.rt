@@ -6,7 +6,7 @@ use std::io;
 use std::io::{BufWriter, Write};
 
 fn main(rt: HostRuntime) -> io::Result<()> {
-    let mut text = [0u8; 81921];
+    let mut text = terminal::large_buffer::<81921>();
     let n = terminal::read_full(&mut rt.stdin(), &mut text)?;
     let mut out = BufWriter::new(rt.alloc(), rt.stdout())?;
     session::print(&mut out, &text[..n])?;

@@ -1,10 +1,3 @@
-pub mod Buffers
-pub mod Intervals
-pub mod Nibbles
+pub mod Lines
 pub mod One
-pub mod Pairs
-pub mod Parting
-pub mod Parts
-pub mod Putting
 pub mod Texts
-pub mod Threes

@@ -1,6 +1,0 @@
--- `replay::space` meets its contract, and nothing counts the zeros. Assumes nothing.
-use Rattle.words.proofs.Buffers.{zeros}
-use Rattle.replay.proofs.space.Goals as goal
-
-pub returns : goal.returns
-returns c = zeros 1048576
