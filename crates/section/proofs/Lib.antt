@@ -2,6 +2,7 @@ pub mod Admitted
 pub mod Alike
 pub mod Checks
 pub mod Effects
+pub mod Fields
 pub mod Filling
 pub mod Lent
 pub mod Looks
