@@ -8,6 +8,13 @@ ghost use Rattle.plan.specs.Owes.{CodeOwes, OfOwes, FieldsOwes, IsIntervalOwes, 
 ghost use Rattle.plan.specs.Owes.{UnmetMainOwes, UnmetSlowOwes, AreSoundOwes, IsSoundOwes};
 ghost use Rattle.plan.specs.Sound.{met, unmet_from, known, sound_main, sound_slow};
 
+// The two definitions of a log: which of them a frame, a field or a name belongs to.
+#[derive(Clone, Copy, PartialEq, Eq)]
+pub enum Sort {
+    Main,
+    Slow,
+}
+
 // The main frames: the items of each list (0 where refused, 2 with no fields), and the fields behind loopIteration and time.
 #[derive(Clone, Copy)]
 pub struct Main {
