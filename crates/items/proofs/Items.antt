@@ -1,46 +1,25 @@
 -- The items of a text: the first, those behind it, and where each stands.
 use Prim.Native.Nat.{ℕ, zero, suc, ◌+◌, ◌-◌, ◌<◌, ◌≤◌}
-use mathlib.Core.Bool.{Bool, true, false, cond}
+use mathlib.Core.Bool.{Bool, true, false, cond, not, and-false}
 use mathlib.Core.List.{List, [], ◌∷◌}
 use mathlib.Core.Path.{◌≡◌, refl, sym, ap, ◌∙◌}
 use native.Mathlib.Decide.{dec_lt}
 use native.Mathlib.Nat.{add-zero}
 use native.Mathlib.Numerals.{add-one}
 use native.Mathlib.Omega.{arith}
-use lib.Dec.{eqb}
-use lib.ListN.{length, get_or, take, drop, length-drop, drop_of_length-le, get_or-eq_default}
+use lib.Dec.{eqb, leb}
+use lib.ListN.{length, take, drop, length-drop, get_or-eq_default}
 use lib.Seq.{length-take-le, drop-cons, drop-drop, get_or-drop}
-use borrow.Author.Tests.{eq-eqb, ne_eqb, lt-ltb, le-ltb, le-leb}
+use borrow.Author.Tests.{lt-ltb, le-ltb, lt-leb, le-leb}
+use mathlib.Core.Logic.{◌⊎◌, ⊎_elim}
+use denote.Ref.{Bor}
+use Rattle.std.specs.Prelude.{Option, Some, None, MatchOption}
+use Rattle.std.specs.Option.{is_some, unwrap_or}
+use Rattle.std.specs.List.{slice_range}
+use Rattle.digits.specs.Digits.{before}
+use Rattle.digits.proofs.Parting.{before_step, before_within}
 use Rattle.items.specs.declared.Stretch.{Stretch}
-use Rattle.items.specs.declared.Stretch.TheVariants.{At, Absent}
-use Rattle.items.specs.Items.{items, onto, at, start_of, item_at, given, part}
-use Rattle.items.specs.Width.{width}
-
--- ## To the next comma
-
--- at i, on the way to the end of an item, which is n: at a comma, at another byte, at the end of the text
-module _ (s : List ℕ) (i n : ℕ) (way : i + width (drop i s) ≡ n) where
-  pub end_comma : get_or s i 0 ≡ 44 → i < length s → i ≡ n
-  unfolding width
-  end_comma e h = omega (arith, rw (drop-cons s i 0 h, eq-eqb (get_or s i 0) 44 e) at way)
-
-  pub end_other : (get_or s i 0 ≡ 44 → ⊥) → i < length s → i + 1 + width (drop (i + 1) s) ≡ n
-  unfolding width
-  end_other ne h = rw (add-one i) (omega (arith, rw (drop-cons s i 0 h, ne_eqb (get_or s i 0) 44 ne) at way))
-
-  pub end_text : length s ≤ i → i ≡ n
-  unfolding width
-  end_text h = omega (arith, rw (drop_of_length-le s h) at way)
-
--- q says whether the first byte is a comma, here and in the steps below
-at_most : (q : Bool) (w n : ℕ) → w ≤ n → cond q 0 (suc w) ≤ suc n
-at_most true w n h = omega arith
-at_most false w n h = omega arith
-
-width_le : (t : List ℕ) → width t ≤ length t
-unfolding width
-width_le [] = omega arith
-width_le (b ∷ t) = at_most (eqb b 44) (width t) (length t) (width_le t)
+use Rattle.items.specs.Items.{items, onto, at, start_of, item_at, absent, given, part}
 
 -- ## The first item
 
@@ -49,15 +28,15 @@ abbrev behind : List ℕ → List (List ℕ)
 behind [] = []
 behind (c ∷ t) = items t
 
-first_by : (t : List ℕ) (b : ℕ) (q : Bool) → items t ≡ take (width t) t ∷ behind (drop (width t) t)
-    → cond q ([] ∷ items t) (onto b (items t)) ≡ take (cond q 0 (suc (width t))) (b ∷ t) ∷ behind (drop (cond q 0 (suc (width t))) (b ∷ t))
+first_by : (t : List ℕ) (b : ℕ) (q : Bool) → items t ≡ take (before 44 t) t ∷ behind (drop (before 44 t) t)
+    → cond q ([] ∷ items t) (onto b (items t)) ≡ take (cond q 0 (suc (before 44 t))) (b ∷ t) ∷ behind (drop (cond q 0 (suc (before 44 t))) (b ∷ t))
 first_by t b true h = refl
 first_by t b false h = ap (onto b) h
 
-first : (t : List ℕ) → items t ≡ take (width t) t ∷ behind (drop (width t) t)
-unfolding items width
+first : (t : List ℕ) → items t ≡ take (before 44 t) t ∷ behind (drop (before 44 t) t)
+unfolding items before
 first [] = refl
-first (b ∷ t) = first_by t b (eqb b 44) (first t)
+first (b ∷ t) = rw (before_step 44 b t) (first_by t b (eqb b 44) (first t))
 
 pub items_some : (t : List ℕ) → 1 ≤ length (items t)
 items_some t = omega (arith, ap length (first t))
@@ -99,13 +78,13 @@ pub stands_first : (s : List ℕ) → Stands s 0 0
 stands_first s = record { within = omega arith; start = sym (start_first (items s)); is = refl }
 
 -- item k, from `from` to `end`
-module _ {s : List ℕ} {from k end : ℕ} (here : Stands s from k) (till : end ≡ from + width (drop from s)) where
+module _ {s : List ℕ} {from k end : ℕ} (here : Stands s from k) (till : end ≡ from + before 44 (drop from s)) where
   pub ends : (from ≤ end) × (end ≤ length s)
-  ends = omega (arith, here.within, width_le (drop from s), length-drop from s)
+  ends = omega (arith, here.within, before_within 44 (drop from s), length-drop from s)
 
   cut : drop k (items s) ≡ take (end - from) (drop from s) ∷ behind (drop end s)
   cut =
-      let size : end - from ≡ width (drop from s) = omega arith in
+      let size : end - from ≡ before 44 (drop from s) = omega arith in
       here.is ∙ rw (size, till, ← drop-drop) (first (drop from s))
 
   -- behind it there are at most as many items as bytes, so none where the text ends
@@ -129,11 +108,11 @@ module _ {s : List ℕ} {from k end : ℕ} (here : Stands s from k) (till : end 
         is = sym (drop-drop 1 k (items s)) ∙ ap (drop 1) cut ∙ rw (add-one end, drop-cons s end 0 more);
       }
 
-  pub item_at_here : {j : ℕ} → k ≡ j → At from end ≡ item_at s j
+  pub item_at_here : {j : ℕ} → k ≡ j → Some (record { start = from; end = end }) ≡ item_at s j
   unfolding item_at
   item_at_here same = rw (← same, lt-ltb k (length (items s)) counts.0, ← here.start, item_length)
 
-  pub item_at_beyond : {j : ℕ} → (end ≡ length s) × (k < j) → Absent ≡ item_at s j
+  pub item_at_beyond : {j : ℕ} → (end ≡ length s) × (k < j) → None ≡ item_at s j
   unfolding item_at
   item_at_beyond {j} done = rw (le-ltb j (length (items s)) (omega (arith, counts)))
 
@@ -147,29 +126,58 @@ stands_at s (suc k) h =
     rw (← add-one k, ← next.start) next
 
 -- what holds of where an item stands, and of none, holds of `item_at`
-module _ (t : List ℕ) (k : ℕ) (P : Stretch → Type 0) where
-  by_item : ((from end : ℕ) → Stands t from k → end ≡ from + width (drop from t) → P (At from end)) → (length (items t) ≤ k → P Absent) → P (item_at t k)
+module _ (t : List ℕ) (k : ℕ) (P : Option Stretch → Type 0) where
+  by_item : ((s : Stretch) → Stands t s.start k → s.end ≡ s.start + before 44 (drop s.start t) → P (Some s)) → (length (items t) ≤ k → P None) → P (item_at t k)
   unfolding item_at
   by_item f g = by (dec_lt k (length (items t)))
     where
       by : Dec (k < length (items t)) → P (item_at t k)
-      by (yes h) = let here = stands_at t k h in rw (← item_at_here here refl refl) (f _ _ here refl)
+      by (yes h) = let here = stands_at t k h in rw (← item_at_here here refl refl) (f _ here refl)
       by (no h) = rw (le-ltb k (length (items t)) (omega arith)) (g (omega arith))
 
-pub item_within : (t : List ℕ) (k a e : ℕ) → item_at t k ≡ At a e → (a ≤ e) × (e ≤ length t)
-item_within t k a e =
-    by_item t k (λ s. s ≡ At a e → (a ≤ e) × (e ≤ length t))
-    (λ from end here till same.
-    let l : from ≡ a = cc in
-    let r : end ≡ e = cc in
-    omega (arith, ends here till))
-    (λ h same. let z : ◌≡◌ {A = ℕ} 0 1 = cc in absurd (omega arith))
+pub item_within : (t : List ℕ) (k : ℕ) (s : Stretch) → item_at t k ≡ Some s → (s.start ≤ s.end) × (s.end ≤ length t)
+item_within t k s =
+    by_item t k (λ o. o ≡ Some s → (s.start ≤ s.end) × (s.end ≤ length t))
+    (λ i here till same. let there : i ≡ s = cc in rw (← there) (ends here till))
+    (λ h same. cc)
 
 pub item_part : (t : List ℕ) (k : ℕ) → part t (item_at t k) ≡ at (items t) k
 unfolding part given
 item_part t k =
     by_item t k (λ s. part t s ≡ at (items t) k)
-    (λ from end here till.
+    (λ s here till.
     let within = ends here till in
-    rw (le-leb from end within.0, le-leb end (length t) within.1) (item here till))
+    rw (le-leb s.start s.end within.0, le-leb s.end (length t) within.1) (item here till))
     (λ h. sym (get_or-eq_default (items t) [] h))
+
+-- ## The bytes of a stretch
+
+-- what the code finds behind a stretch: no bytes just if it is not given
+abbrev pub Bytes : List ℕ → Option Stretch → Option (Bor (List ℕ)) → Type 0
+Bytes text s r = MatchOption r (given text s ≡ false) (λ b. (given text s ≡ true) × (b.now ≡ part text s))
+
+pub no_bytes : (text : List ℕ) → Bytes text None None
+unfolding given
+no_bytes text = refl
+
+pub bytes_of : (text : List ℕ) (s : Stretch) (r : Option (Bor (List ℕ)))
+    → MatchOption r ((s.end < s.start) ⊎ (length text < s.end))
+    (λ x. (s.start ≤ s.end) × (s.end ≤ length text) × (x.now ≡ slice_range text s.start s.end) × (length x.now + s.start ≡ s.end))
+    → Bytes text (Some s) r
+unfolding given part
+bytes_of text s None h = ⊎_elim (λ w. rw (lt-leb s.start s.end w)) (λ w. rw (lt-leb s.end (length text) w, and-false (leb s.start s.end))) h
+bytes_of text s (Some x) h = rw (le-leb s.start s.end h.0, le-leb s.end (length text) h.1) (refl, h.2)
+
+part_none : (text : List ℕ) (s : Option Stretch) → given text s ≡ false → [] ≡ part text s
+unfolding part given
+part_none text None h = refl
+part_none text (Some s) h = rw h
+
+module _ (text : List ℕ) (s : Option Stretch) where
+  pub given_by : (r : Option (Bor (List ℕ))) → Bytes text s r → is_some r ≡ given text s
+  given_by None h = sym h
+  given_by (Some x) h = sym h.0
+
+  pub part_by : (r : Option (Bor (List ℕ))) (d : Bor (List ℕ)) → d.now ≡ [] → Bytes text s r → (unwrap_or r d).now ≡ part text s
+  part_by None d e h = e ∙ part_none text s h
+  part_by (Some x) d e h = h.1

@@ -12,7 +12,7 @@ use Rattle.items.specs.declared.Of.{Of}
 use Rattle.items.specs.declared.Row.{Row}
 use Rattle.items.specs.Items.{items, at}
 use Rattle.items.specs.Rows.{code_of, row_of}
-use Rattle.items.specs.Width.{width}
+use Rattle.digits.specs.Digits.{before}
 use Rattle.items.proofs.Items.{items_count_le, Stands, stands_first, ends, counts, item, stands_next}
 use Rattle.items.proofs.Tables.{get_d_table, table_same, set_table, replicate_table}
 
@@ -55,15 +55,15 @@ row_more of l k =
 pub record Filled (of : Of) (s codes : List ℕ) (k from end : ℕ) : Type 0 where
   pub within : (from ≤ end) × (end ≤ length s) × (k ≤ length s)
   pub here : Stands s from k
-  pub till : end ≡ from + width (drop from s)
+  pub till : end ≡ from + before 44 (drop from s)
   pub are : codes ≡ (row_of of (take k (items s))).codes
 
-filled : {of : Of} {s codes : List ℕ} {k from end : ℕ} → Stands s from k → end ≡ from + width (drop from s)
+filled : {of : Of} {s codes : List ℕ} {k from end : ℕ} → Stands s from k → end ≡ from + before 44 (drop from s)
     → codes ≡ (row_of of (take k (items s))).codes → Filled of s codes k from end
 filled {s = s} here till are =
     record { within = omega (arith, ends here till, counts here till, items_count_le s); here = here; till = till; are = are }
 
-pub filled_first : {of : Of} {s : List ℕ} {v end : ℕ} → v ≡ code_of of [] → end ≡ 0 + width (drop 0 s) → Filled of s (replicate 64 v) 0 0 end
+pub filled_first : {of : Of} {s : List ℕ} {v end : ℕ} → v ≡ code_of of [] → end ≡ 0 + before 44 (drop 0 s) → Filled of s (replicate 64 v) 0 0 end
 filled_first {of} {s} e till = filled (stands_first s) till (ap (replicate 64) e ∙ row_none of)
 
 module _ {of : Of} {s codes : List ℕ} {k from end v : ℕ} {more : List ℕ} (is : Filled of s codes k from end)
@@ -71,7 +71,7 @@ module _ {of : Of} {s codes : List ℕ} {k from end v : ℕ} {more : List ℕ} (
   one_more : more ≡ (row_of of (take (k + 1) (items s))).codes
   one_more = laid ∙ ap₂ (λ c x. set c k x) is.are (said ∙ ap (code_of of) (item is.here is.till)) ∙ row_more of (items s) k
 
-  pub filled_on : {next : ℕ} → next ≡ end + 1 + width (drop (end + 1) s) → end < length s → Filled of s more (k + 1) (end + 1) next
+  pub filled_on : {next : ℕ} → next ≡ end + 1 + before 44 (drop (end + 1) s) → end < length s → Filled of s more (k + 1) (end + 1) next
   filled_on till inside = filled (stands_next is.here is.till (λ e. omega arith)) till one_more
 
   pub filled_end : length s ≤ end → ◌≡◌ {A = Row} (record { count = k + 1; codes = more }) (row_of of (items s))

@@ -1,13 +1,14 @@
--- `items::item_end` meets its contract: at each turn the item's end is where it was found to be. Assumes nothing.
-use borrow.Author.Rules.{rules}
-use Rattle.items.proofs.Items.{end_comma, end_other, end_text}
+-- `items::item_end` meets its contract: the end lies within the text. Assumes nothing.
+use native.Mathlib.Omega.{arith}
+use lib.ListN.{drop, length-drop}
+use Rattle.digits.proofs.Parting.{rest_all, before_within}
 use Rattle.items.proofs.item_end.Goals as goal
 
-pub returns-then-text-end-eq44 : goal.returns-then-text-end-eq44
-returns-then-text-end-eq44 c = search end_comma
-
-pub loop-end-preserved : goal.loop-end-preserved
-loop-end-preserved c = (search rules, search end_other)
+pub overflow_add-result : goal.overflow_add-result
+overflow_add-result c =
+    let s = c.args.text.now in
+    let way = rw rest_all at c.until.ensures in
+    omega (arith, c.well_formed, before_within 44 (drop c.args.from s), length-drop c.args.from s)
 
 pub returns : goal.returns
-returns c = search end_text
+returns c = let way = rw rest_all at c.until.ensures in omega arith
