@@ -1,6 +1,7 @@
 -- Laws of one call: it answers something; an admitted walk stays admitted and does not go back; a call that is not over goes on by a byte or more,
 -- and one behind the section's last byte is over, so that calls come to an end; a walk that has ended stays as it is.
 use Prim.Native.Nat.{ℕ, ◌<◌, ◌≤◌}
+use Rattle.std.specs.Prelude.{Ok, Err}
 use mathlib.Core.Bool.{Bool, true, false, true≢false}
 use mathlib.Core.List.{List}
 use mathlib.Core.Path.{◌≡◌, refl, sym, ap, ◌∙◌}
@@ -10,12 +11,10 @@ use lib.ListN.{length}
 use borrow.Author.Tests.{ltb-true, ltb-false}
 use Rattle.plan.specs.declared.Definition.{Definition}
 use Rattle.section.specs.declared.Answer.TheVariants.{Refused}
-use Rattle.section.specs.declared.Check.{Check}
-use Rattle.section.specs.declared.Check.TheVariants as check
 use Rattle.section.specs.declared.Looked.{Looked}
 use Rattle.section.specs.declared.Walk.{Walk}
 use Rattle.section.specs.Answers.{Told, checked_first, handed, is_over, refusing, told}
-use Rattle.section.specs.Refusals.{admitted, checked}
+use Rattle.section.specs.Refusals.{Check, admitted, checked}
 use Rattle.section.specs.Walk.{over, tick}
 use Rattle.section.proofs.Alike.{is_going}
 use Rattle.section.proofs.Paper.{paper_injective}
@@ -83,8 +82,8 @@ unfolding handed refusing checked_first is_over
 call_goes_on d w s out r {after} owes going = by_check (checked d w (length s) (length out)) owes
   where
     by_check : (c : Check) → told r after ≡ checked_first c (called d s w) w out → left s r.walk < left s w
-    by_check check.Pass e =
+    by_check (Ok u) e =
         let answer = paper_injective r.answer (called d s w).answer (ap (λ (x : Told). x.said) e) in
         rw (ap (λ (x : Told). x.walk) e) (called_less d s w (sym (ap is_over answer) ∙ going))
-    by_check (check.Refused why) e =
+    by_check (Err why) e =
         let answer = paper_injective r.answer (Refused why) (ap (λ (x : Told). x.said) e) in absurd (true≢false (sym (ap is_over answer) ∙ going))

@@ -1,4 +1,5 @@
 pub mod Calls
+pub mod Fields
 pub mod Lent
 pub mod Loop
 pub mod One

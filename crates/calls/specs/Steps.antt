@@ -1,6 +1,6 @@
 -- How the code calls: a look in vain is one that ended in a search, and its flag, that the search found nothing, goes on to the next look and the next call.
 -- No part of the meaning: it is cited by contracts of inner functions, of which `step` is public for whole walks.
-use Rattle.std.specs.Prelude.{List, ◌≡◌, ℕ}
+use Rattle.std.specs.Prelude.{Bool, List, ◌≡◌, ℕ, Option, Some, None}
 use Rattle.plan.specs.declared.Definition.{Definition}
 use Rattle.extent.specs.declared.Seen.{Seen}
 use Rattle.extent.specs.declared.Seen.TheVariants.{Nothing, Passed, Rejected, Cutoff, Accepted}
@@ -8,16 +8,14 @@ use Rattle.extent.specs.Sight.{Barren}
 use Rattle.section.specs.declared.Walk.{Walk}
 use Rattle.section.specs.Answers.{told, handed}
 use Rattle.calls.specs.declared.Called.{Called}
-use Rattle.calls.specs.declared.Vain.{Vain}
-use Rattle.calls.specs.declared.Vain.TheVariants.{Searched, Says}
 use Rattle.calls.specs.Call.{called}
 
-unfoldable pub vain : Seen → Vain
-vain Nothing = Says
-vain (Passed s) = Searched s.barren
-vain (Rejected k s) = Searched s.barren
-vain (Cutoff k) = Says
-vain (Accepted f m) = Says
+unfoldable pub vain : Seen → Option Bool
+vain Nothing = None
+vain (Passed s) = Some s.barren
+vain (Rejected k s) = Some s.barren
+vain (Cutoff k) = None
+vain (Accepted f m) = None
 
 -- a call from an admitted walk: what it tells, and that its flag is right for the next
 pub record Steps (d : Definition) (w : Walk) (s out : List ℕ) (r : Called) (after : List ℕ) : Type 0 where

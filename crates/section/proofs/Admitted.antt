@@ -1,25 +1,22 @@
 -- What is known of an admitted walk and its definition, and what makes one.
 use Prim.Native.Nat.{ℕ, zero, suc, ◌+◌, ◌≤◌}
-use mathlib.Core.Bool.{Bool, true, false, cond, ◌&&◌, and-eq-true_iff}
-use mathlib.Core.Path.{◌≡◌, refl, sym, ◌∙◌}
+use mathlib.Core.Bool.{true, ◌&&◌, and-eq-true_iff}
+use mathlib.Core.Path.{◌≡◌, sym, ◌∙◌}
 use native.Mathlib.Omega.{arith}
-use lib.Dec.{eqb, ltb, leb}
+use lib.Dec.{eqb, leb}
 use lib.ListN.{length, get_or, get_or-eq_default}
-use borrow.Author.Tests.{eq-eqb, eqb-true, le-leb, leb-true, ltb-true, ltb-false}
+use borrow.Author.Tests.{eq-eqb, eqb-true, le-leb, leb-true}
 use Rattle.plan.specs.declared.Definition.{Definition}
-use Rattle.plan.specs.Plan.{fields}
 use Rattle.plan.specs.Sound.{sound}
 use Rattle.plan.proofs.Sound.{main_fields, slow_fields_law, sound_main_law, sound_slow_law}
 use Rattle.history.specs.History as history
 use Rattle.extent.specs.declared.Seen.{Seen}
 use Rattle.extent.specs.Extent.{span}
-use Rattle.section.specs.declared.Check.{Check}
-use Rattle.section.specs.declared.Check.TheVariants.{Pass}
 use Rattle.section.specs.declared.Tally.{Tally}
 use Rattle.section.specs.declared.Walk.{Walk}
 use Rattle.section.specs.Fits.{Fits, Rooms}
 use Rattle.section.specs.Owes.{CheckOwes}
-use Rattle.section.specs.Refusals.{parts_of, tally_sound, admitted, larger, needed, checked}
+use Rattle.section.specs.Refusals.{Check, pass, parts_of, tally_sound, admitted, needed, checked}
 use Rattle.section.proofs.Checks.{tally_is, admitted_is, passes, check_is}
 
 -- ## The five facts
@@ -78,27 +75,6 @@ admitted_fits d z w h x reaches four =
 
 -- ## Rooms
 
-larger_left : (a b : ℕ) → a ≤ larger a b
-larger_left a b = go (ltb a b) refl
-  where
-    go : (q : Bool) → ltb a b ≡ q → a ≤ cond q b a
-    go true e = omega (arith, ltb-true a b e)
-    go false e = omega arith
-
-larger_right : (a b : ℕ) → b ≤ larger a b
-larger_right a b = go (ltb a b) refl
-  where
-    go : (q : Bool) → ltb a b ≡ q → b ≤ cond q b a
-    go true e = omega arith
-    go false e = omega (arith, ltb-false a b e)
-
-larger_least : (a b n : ℕ) → a ≤ n → b ≤ n → larger a b ≤ n
-larger_least a b n p q = go (ltb a b)
-  where
-    go : (t : Bool) → cond t b a ≤ n
-    go true = q
-    go false = p
-
 module _ (d : Definition) where
   pub sound_rooms : {room : ℕ} → sound d ≡ true → needed d ≤ room → Rooms d room
   unfolding needed
@@ -106,23 +82,22 @@ module _ (d : Definition) where
       record {
         main = main_fields d.main d.numbers (sound_main_law d h);
         slow = slow_fields_law d.slow d.numbers (sound_slow_law d h);
-        main_out = omega (arith, larger_left (fields d.main) d.slow.n);
-        slow_out = omega (arith, larger_right (fields d.main) d.slow.n);
+        main_out = omega arith;
+        slow_out = omega arith;
       }
 
   pub needed_rooms : sound d ≡ true → needed d ≤ 62
   unfolding needed
   needed_rooms h =
-      larger_least (fields d.main) d.slow.n 62 (main_fields d.main d.numbers (sound_main_law d h))
-      (omega (arith, slow_fields_law d.slow d.numbers (sound_slow_law d h)))
+      omega (arith, main_fields d.main d.numbers (sound_main_law d h), slow_fields_law d.slow d.numbers (sound_slow_law d h))
 
 -- ## A check that passes
 
-pub checked_pass : (d : Definition) (w : Walk) (z room : ℕ) → checked d w z room ≡ Pass → (admitted d z w ≡ true) × Rooms d room
+pub checked_pass : (d : Definition) (w : Walk) (z room : ℕ) → checked d w z room ≡ pass → (admitted d z w ≡ true) × Rooms d room
 unfolding checked
 checked_pass d w z room e =
     let p = passes (admitted d z w) (leb (needed d) room) (needed d) e in
     (p.0, sound_rooms d (admitted_sound d z w p.0) (leb-true (needed d) room p.1))
 
-pub check_passes : (d : Definition) (w : Walk) (z room : ℕ) {v : Check} → CheckOwes d w z room v → v ≡ Pass → (admitted d z w ≡ true) × Rooms d room
+pub check_passes : (d : Definition) (w : Walk) (z room : ℕ) {v : Check} → CheckOwes d w z room v → v ≡ pass → (admitted d z w ≡ true) × Rooms d room
 check_passes d w z room owes pass = checked_pass d w z room (sym (check_is d w z room owes) ∙ pass)

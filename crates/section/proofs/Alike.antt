@@ -28,6 +28,13 @@ is_going Done = false
 is_going Out = false
 is_going (Cut k p) = false
 
+-- what is not going has ended
+pub not_going : (e : Ending) → (e ≡ Going → ⊥) → is_going e ≡ false
+not_going Going h = absurd (h refl)
+not_going Done h = refl
+not_going Out h = refl
+not_going (Cut k p) h = refl
+
 if_cond : (e : Ending) (x y : Outcome) → if_going e x y ≡ cond (is_going e) x y
 if_cond Going x y = refl
 if_cond Done x y = refl

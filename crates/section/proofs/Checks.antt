@@ -1,23 +1,20 @@
 -- The checks by the ways through the code: what is tested first decides.
 use Prim.Native.Nat.{ℕ, ◌≤◌, ◌<◌}
+use Rattle.std.specs.Prelude.{None, Some, Err}
 use mathlib.Core.Bool.{Bool, true, false, not, cond, ◌&&◌}
-use mathlib.Core.Option.{none, some}
-use mathlib.Core.Path.{◌≡◌, refl, sym, ap, ◌∙◌}
+use mathlib.Core.Path.{◌≡◌, refl, sym, ◌∙◌}
 use native.Mathlib.Omega.{arith}
-use lib.Dec.{eqb, ltb, leb}
-use borrow.Author.Tests.{lt-ltb, le-ltb, le-leb, lt-leb, leb-true, not-true, not-false}
+use lib.Dec.{eqb, leb}
+use borrow.Author.Tests.{le-leb, lt-leb, leb-true, not-true, not-false}
 use Rattle.plan.specs.declared.Definition.{Definition}
-use Rattle.plan.specs.Plan.{fields}
 use Rattle.plan.specs.Sound.{sound}
 use Rattle.history.specs.History as history
-use Rattle.section.specs.declared.Check.{Check}
-use Rattle.section.specs.declared.Check.TheVariants.{Pass, Refused}
 use Rattle.section.specs.declared.Refusal.TheVariants.{Unsound, TooShort}
 use Rattle.section.specs.declared.Tally.{Tally}
 use Rattle.section.specs.declared.Walk.{Walk}
 use Rattle.section.specs.Answers.{refusal, paper_of, found, refusal_for}
 use Rattle.section.specs.Owes.{CheckOwes}
-use Rattle.section.specs.Refusals.{parts_of, tally_sound, admitted, needed, checked}
+use Rattle.section.specs.Refusals.{Check, pass, parts_of, tally_sound, admitted, needed, checked}
 use Rattle.section.proofs.Paper.{found_injective}
 
 -- ## The tally
@@ -27,16 +24,6 @@ module _ (z : ℕ) (t : Tally) where
   unfolding tally_sound
   tally_is p q r = rw (p, q, r)
 
-  pub tally_beyond : z < t.place → false ≡ tally_sound z t
-  tally_beyond h = sym (tally_is (lt-leb t.place z h) refl refl)
-
-  module _ (inside : t.place ≤ z) where
-    pub tally_crowded : t.place < t.trials → false ≡ tally_sound z t
-    tally_crowded h = sym (tally_is (le-leb t.place z inside) (lt-leb t.trials t.place h) refl)
-
-    pub tally_sums : {b : Bool} → b ≡ eqb t.trials (parts_of t) → t.trials ≤ t.place → b ≡ tally_sound z t
-    tally_sums e h = sym (tally_is (le-leb t.place z inside) (le-leb t.trials t.place h) (sym e))
-
 -- ## Refusal 10
 
 module _ (d : Definition) (z : ℕ) (w : Walk) where
@@ -44,42 +31,18 @@ module _ (d : Definition) (z : ℕ) (w : Walk) where
   unfolding admitted
   admitted_is p q r = rw (p, q, r)
 
-  module _ {a : Bool} (tally : a ≡ tally_sound z w.tally) where
-    pub admits_no_tally : not a ≡ true → false ≡ admitted d z w
-    admits_no_tally p = sym (admitted_is (sym tally ∙ not-true a p) refl refl)
-
-    module _ {b : Bool} (past : b ≡ history.sound w.history) (p : not a ≡ false) where
-      pub admits_no_history : not b ≡ true → false ≡ admitted d z w
-      admits_no_history q = sym (admitted_is (sym tally ∙ not-false a p) (sym past ∙ not-true b q) refl)
-
-      pub admits_by_definition : {c : Bool} → c ≡ sound d → not b ≡ false → c ≡ admitted d z w
-      admits_by_definition e q = sym (admitted_is (sym tally ∙ not-false a p) (sym past ∙ not-false b q) (sym e))
-
--- ## The room that is needed
-
-module _ (d : Definition) {n : ℕ} (e : n ≡ fields d.main) where
-  needed_is : (q : Bool) → ltb n d.slow.n ≡ q → cond q d.slow.n n ≡ needed d
-  unfolding needed
-  needed_is q t = ap (λ p. cond p d.slow.n n) (sym t) ∙ ap (λ m. cond (ltb m d.slow.n) d.slow.n m) e
-
-  pub needed_slow : n < d.slow.n → d.slow.n ≡ needed d
-  needed_slow h = needed_is true (lt-ltb n d.slow.n h)
-
-  pub needed_main : d.slow.n ≤ n → n ≡ needed d
-  needed_main h = needed_is false (le-ltb n d.slow.n h)
-
 -- ## Both refusals, for a buffer that has to have so many places
 
 -- the verdict, by whether the walk is admitted and the buffer long enough
 abbrev pub verdict : (a b : Bool) → (least : ℕ) → Check
-verdict a b n = cond a (cond b Pass (Refused (TooShort n))) (Refused Unsound)
+verdict a b n = cond a (cond b pass (Err (TooShort n))) (Err Unsound)
 
-pub passes : (a b : Bool) (n : ℕ) → verdict a b n ≡ Pass → (a ≡ true) × (b ≡ true)
+pub passes : (a b : Bool) (n : ℕ) → verdict a b n ≡ pass → (a ≡ true) × (b ≡ true)
 passes true true n e = (refl, refl)
 passes true false n e = let z : ◌≡◌ {A = ℕ} 0 1 = cc in absurd (omega arith)
 passes false b n e = let z : ◌≡◌ {A = ℕ} 0 1 = cc in absurd (omega arith)
 
-says : (a b : Bool) (n : ℕ) → found (verdict a b n) ≡ cond a (cond b none (some (refusal 11 n))) (some (refusal 10 0))
+says : (a b : Bool) (n : ℕ) → found (verdict a b n) ≡ cond a (cond b None (Some (refusal 11 n))) (Some (refusal 10 0))
 unfolding found paper_of
 says true true n = refl
 says true false n = refl
@@ -91,20 +54,20 @@ module _ (d : Definition) (w : Walk) (z room least : ℕ) where
   refusal_is {a} {b} {n} p e q = says a b n ∙ rw (p, e, q)
 
   module _ {a : Bool} (admits : a ≡ admitted d z w) where
-    pub refusal_unsound : not a ≡ true → found (Refused Unsound) ≡ refusal_for least d w z room
+    pub refusal_unsound : not a ≡ true → found (Err Unsound) ≡ refusal_for least d w z room
     refusal_unsound p = refusal_is (sym admits ∙ not-true a p) refl refl
 
     module _ {n : ℕ} (long : n ≡ least) (p : not a ≡ false) where
-      pub refusal_short : room < n → found (Refused (TooShort n)) ≡ refusal_for least d w z room
+      pub refusal_short : room < n → found (Err (TooShort n)) ≡ refusal_for least d w z room
       refusal_short h = refusal_is (sym admits ∙ not-false a p) (sym long) (lt-leb n room h)
 
-      pub refusal_none : n ≤ room → found Pass ≡ refusal_for least d w z room
+      pub refusal_none : n ≤ room → found pass ≡ refusal_for least d w z room
       refusal_none h = refusal_is (sym admits ∙ not-false a p) (sym long) (le-leb n room h)
 
   pub refusal_verdict : {r : Check} → found r ≡ refusal_for least d w z room → r ≡ verdict (admitted d z w) (leb least room) least
   refusal_verdict {r} e = found_injective r _ (e ∙ sym (refusal_is refl refl refl))
 
-  pub refusal_passes : {r : Check} → found r ≡ refusal_for least d w z room → r ≡ Pass → (admitted d z w ≡ true) × (least ≤ room)
+  pub refusal_passes : {r : Check} → found r ≡ refusal_for least d w z room → r ≡ pass → (admitted d z w ≡ true) × (least ≤ room)
   refusal_passes e pass =
       let p = passes (admitted d z w) (leb least room) least (sym (refusal_verdict e) ∙ pass) in (p.0, leb-true least room p.1)
 

@@ -2,6 +2,7 @@ pub mod Admitted
 pub mod Alike
 pub mod Checks
 pub mod Effects
+pub mod Fields
 pub mod Filling
 pub mod Lent
 pub mod Looks
@@ -11,5 +12,4 @@ pub mod Paper
 pub mod Rooms
 pub mod Stays
 pub mod Sums
-pub mod Tallies
 pub mod Trials

@@ -1,5 +1,6 @@
 -- One look by the ways through the code: a walk that goes on, one that has ended, and one that is refused.
 use Prim.Native.Nat.{ℕ}
+use Rattle.std.specs.Prelude.{Err}
 use mathlib.Core.Bool.{true, false}
 use mathlib.Core.List.{List}
 use mathlib.Core.Path.{◌≡◌, sym, ap, ◌∙◌}
@@ -10,14 +11,12 @@ use Rattle.extent.specs.declared.Look.{Look}
 use Rattle.extent.specs.Extent.{look}
 use Rattle.extent.specs.Owes.{SightOwes}
 use Rattle.extent.proofs.Reach.{look_reaches}
-use Rattle.section.specs.declared.Check.{Check}
-use Rattle.section.specs.declared.Check.TheVariants.{Pass, Refused}
 use Rattle.section.specs.declared.Ending.TheVariants.{Going}
 use Rattle.section.specs.declared.Refusal.{Refusal}
 use Rattle.section.specs.declared.Walk.{Walk}
 use Rattle.section.specs.Answers.{Told, handed, refusing, checked_first}
 use Rattle.section.specs.Fits.{Fits}
-use Rattle.section.specs.Refusals.{admitted}
+use Rattle.section.specs.Refusals.{Check, pass, admitted}
 use Rattle.section.specs.Walk.{Outcome, settled, over, tick}
 use Rattle.section.proofs.Admitted.{admitted_place, admitted_fits}
 use Rattle.section.proofs.Alike.{is_going}
@@ -41,10 +40,10 @@ module _ (d : Definition) (s : List ℕ) (w : Walk) where
 -- ## Behind a check
 
 module _ (o : Outcome) (w : Walk) (out : List ℕ) {v c : Check} {r : Told} (verdict : v ≡ c) where
-  pub first_passes : v ≡ Pass → r ≡ handed o out → r ≡ checked_first c o w out
+  pub first_passes : v ≡ pass → r ≡ handed o out → r ≡ checked_first c o w out
   unfolding checked_first
   first_passes e tells = tells ∙ ap (λ k. checked_first k o w out) (sym e ∙ verdict)
 
-  pub first_refused : {why : Refusal} → v ≡ Refused why → r ≡ refusing why w out → r ≡ checked_first c o w out
+  pub first_refused : {why : Refusal} → v ≡ Err why → r ≡ refusing why w out → r ≡ checked_first c o w out
   unfolding checked_first
   first_refused e tells = tells ∙ ap (λ k. checked_first k o w out) (sym e ∙ verdict)

@@ -1,8 +1,8 @@
 -- The numbers tell answers apart, and verdicts: each can be read back from what it says in them.
 use Prim.Native.Nat.{ℕ}
+use Rattle.std.specs.Prelude.{None, Some, Ok, Err}
 use mathlib.Core.Bool.{cond}
 use mathlib.Core.List.{List, [], ◌∷◌}
-use mathlib.Core.Option.{none, some}
 use mathlib.Core.Path.{◌≡◌, refl, ap}
 use lib.Dec.{eqb}
 use lib.ListN.{get_or}
@@ -14,11 +14,10 @@ use Rattle.reader.specs.declared.Letter.TheVariants.{Is, Other}
 use Rattle.reader.specs.Search.{byte_of, letter_of}
 use Rattle.section.specs.declared.Answer.{Answer}
 use Rattle.section.specs.declared.Answer.TheVariants.{Passed, Rejected, Event, Intra, Inter, Slow, Over, Refused}
-use Rattle.section.specs.declared.Check.{Check}
-use Rattle.section.specs.declared.Check.TheVariants as check
 use Rattle.section.specs.declared.Ending.TheVariants.{Going, Done, Out, Cut}
 use Rattle.section.specs.declared.MainAnswer.{MainAnswer}
 use Rattle.section.specs.declared.Refusal.TheVariants.{Unsound, TooShort}
+use Rattle.section.specs.Refusals.{Check, pass}
 use Rattle.section.specs.Answers.{Paper, paper_of, Finding, found}
 
 -- ## Kinds
@@ -90,14 +89,14 @@ paper_injective = read_back paper_of answer_of answer_back
 -- ## Verdicts
 
 verdict_of : Finding → Check
-verdict_of none = check.Pass
-verdict_of (some p) = cond (eqb p.number 10) (check.Refused Unsound) (check.Refused (TooShort (at p.values 0)))
+verdict_of None = pass
+verdict_of (Some p) = cond (eqb p.number 10) (Err Unsound) (Err (TooShort (at p.values 0)))
 
 verdict_back : (c : Check) → verdict_of (found c) ≡ c
 unfolding found paper_of verdict_of
-verdict_back check.Pass = refl
-verdict_back (check.Refused Unsound) = refl
-verdict_back (check.Refused (TooShort n)) = refl
+verdict_back (Ok u) = refl
+verdict_back (Err Unsound) = refl
+verdict_back (Err (TooShort n)) = refl
 
 pub found_injective : (a b : Check) → found a ≡ found b → a ≡ b
 found_injective = read_back found verdict_of verdict_back

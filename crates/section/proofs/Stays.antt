@@ -27,7 +27,7 @@ use Rattle.section.specs.declared.Tally.{Tally}
 use Rattle.section.specs.declared.Walk.{Walk}
 use Rattle.section.specs.Refusals.{cuts, parts_of, admitted}
 use Rattle.section.specs.Tally.{place_after, ended_by, ending_after, part_of, one_more, counts_after, trials_after, tally_after}
-use Rattle.section.specs.Walk.{start, history_with, history_after, settled, over, if_going, tick}
+use Rattle.section.specs.Walk.{Outcome, start, history_with, history_after, settled, over, if_going, tick}
 use Rattle.section.proofs.Admitted.{admits, admitted_place, admitted_few, admitted_sum, admitted_history, admitted_sound}
 use Rattle.section.proofs.Alike.{is_going}
 
@@ -166,6 +166,18 @@ module _ (d : Definition) (l : Look) (z : ℕ) (w : Walk) where
 
 -- ## One look, going on or not
 
+-- what holds of the outcome of a look and of one that has ended holds of a tick
+pub tick_by : (d : Definition) (s : List ℕ) (Q : Outcome → Type 0) (w : Walk)
+    → (w.tally.ending ≡ Going → Q (settled d (look (shape d) (drop w.tally.place s)) (length s) w)) → (tick d s w ≡ over w → Q (over w)) → Q (tick d s w)
+unfolding tick
+tick_by d s Q w on off = each w.tally.ending refl
+  where
+    each : (e : Ending) → w.tally.ending ≡ e → Q (if_going e (settled d (look (shape d) (drop w.tally.place s)) (length s) w) (over w))
+    each Going e = on e
+    each Done e = off (rw e)
+    each Out e = off (rw e)
+    each (Cut k p) e = off (rw e)
+
 module _ (d : Definition) (s : List ℕ) (w : Walk) where
   -- what the look of a walk that goes on sees
   abbrev sees : Look
@@ -185,27 +197,18 @@ module _ (d : Definition) (s : List ℕ) (w : Walk) where
       go Out e = refl
       go (Cut k p) e = refl
 
-  -- what holds of a walk that has ended and behind a look holds behind a tick
-  each_way : (P : Walk → Type 0) → (w.tally.ending ≡ Going → P (settled d sees (length s) w).walk) → P w → P (tick d s w).walk
-  unfolding tick over
-  each_way P on off = go w.tally.ending refl
-    where
-      go : (e : Ending) → w.tally.ending ≡ e → P (if_going e (settled d sees (length s) w) (over w)).walk
-      go Going e = on e
-      go Done e = off
-      go Out e = off
-      go (Cut k p) e = off
-
   pub tick_counts : length (tick d s w).walk.tally.counts ≡ length w.tally.counts
-  unfolding settled
-  tick_counts = each_way (λ v. length v.tally.counts ≡ length w.tally.counts) (λ _. after_counts sees.seen (length s) w.tally) refl
+  unfolding settled over
+  tick_counts = tick_by d s (λ o. length o.walk.tally.counts ≡ length w.tally.counts) w (λ _. after_counts sees.seen (length s) w.tally) (λ _. refl)
 
   module _ (h : admitted d (length s) w ≡ true) where
     look_fits : w.tally.place + span sees.seen ≤ length s
     look_fits = look_reaches (shape d) s w.tally.place (admitted_place d (length s) w h)
 
     pub tick_admitted : length w.tally.counts ≡ 4 → admitted d (length s) (tick d s w).walk ≡ true
-    tick_admitted four = each_way (λ v. admitted d (length s) v ≡ true) (λ going. settled_admitted d sees (length s) w h going look_fits four) h
+    unfolding over
+    tick_admitted four =
+        tick_by d s (λ o. admitted d (length s) o.walk ≡ true) w (λ going. settled_admitted d sees (length s) w h going look_fits four) (λ _. h)
 
 -- ## The start
 

@@ -1,5 +1,6 @@
 -- The trials that an answer reports: no more than the section's bytes, and the sum of their parts in the walk behind it; a refusal reports none.
 use Prim.Native.Nat.{ℕ, ◌≤◌}
+use Rattle.std.specs.Prelude.{Ok, Err}
 use mathlib.Core.Bool.{Bool, true, false, true≢false}
 use mathlib.Core.List.{List}
 use mathlib.Core.Path.{◌≡◌, refl, sym, ap, ◌∙◌}
@@ -8,13 +9,11 @@ use lib.ListN.{length}
 use Rattle.plan.specs.declared.Definition.{Definition}
 use Rattle.section.specs.declared.Answer.{Answer}
 use Rattle.section.specs.declared.Answer.TheVariants as answer
-use Rattle.section.specs.declared.Check.{Check}
-use Rattle.section.specs.declared.Check.TheVariants.{Pass, Refused}
 use Rattle.section.specs.declared.Looked.{Looked}
 use Rattle.section.specs.declared.Walk.{Walk}
 use Rattle.section.specs.Answers.{Told, told, handed, refusing, checked_first}
 use Rattle.section.specs.Owes.{LookOwes}
-use Rattle.section.specs.Refusals.{admitted, checked, parts_of}
+use Rattle.section.specs.Refusals.{Check, pass, admitted, checked, parts_of}
 use Rattle.section.specs.Walk.{Outcome, tick}
 use Rattle.section.proofs.Admitted.{admitted_place, admitted_few, admitted_sum, checked_pass}
 use Rattle.section.proofs.Paper.{paper_injective}
@@ -33,26 +32,26 @@ is_refused (answer.Refused why) = true
 -- ## Behind a check that passes for admitted walks alone
 
 module _ (d : Definition) (z : ℕ) (o : Outcome) (w : Walk) (out : List ℕ) (r : Looked) {after : List ℕ} where
-  pub first_trials : (c : Check) → (c ≡ Pass → admitted d z o.walk ≡ true) → told r after ≡ checked_first c o w out → r.trials ≤ z
+  pub first_trials : (c : Check) → (c ≡ pass → admitted d z o.walk ≡ true) → told r after ≡ checked_first c o w out → r.trials ≤ z
   unfolding checked_first handed refusing
-  first_trials Pass so e =
+  first_trials (Ok u) so e =
       let same : r.trials ≡ o.walk.tally.trials = ap (λ (x : Told). x.trials) e in
       omega (arith, admitted_few d z o.walk (so refl), admitted_place d z o.walk (so refl))
-  first_trials (Refused why) so e = let none : r.trials ≡ 0 = ap (λ (x : Told). x.trials) e in omega arith
+  first_trials (Err why) so e = let none : r.trials ≡ 0 = ap (λ (x : Told). x.trials) e in omega arith
 
-  pub first_parts : (c : Check) → (c ≡ Pass → admitted d z o.walk ≡ true) → told r after ≡ checked_first c o w out → is_refused r.answer ≡ false
+  pub first_parts : (c : Check) → (c ≡ pass → admitted d z o.walk ≡ true) → told r after ≡ checked_first c o w out → is_refused r.answer ≡ false
       → r.trials ≡ parts_of r.walk.tally
   unfolding checked_first handed refusing is_refused
-  first_parts Pass so e Told-more =
+  first_parts (Ok u) so e Told-more =
       ap (λ (x : Told). x.trials) e ∙ admitted_sum d z o.walk (so refl) ∙ sym (ap (λ (x : Told). parts_of x.walk.tally) e)
-  first_parts (Refused why) so e Told-more =
+  first_parts (Err why) so e Told-more =
       let says = paper_injective r.answer (answer.Refused why) (ap (λ (x : Told). x.said) e) in absurd (true≢false (sym (ap is_refused says) ∙ Told-more))
 
 -- ## A look
 
 module _ (d : Definition) (w : Walk) (s out : List ℕ) (r : Looked) {after : List ℕ}
     (owes : LookOwes d w s out r after) (four : length w.tally.counts ≡ 4) where
-  stays : checked d w (length s) (length out) ≡ Pass → admitted d (length s) (tick d s w).walk ≡ true
+  stays : checked d w (length s) (length out) ≡ pass → admitted d (length s) (tick d s w).walk ≡ true
   stays e = tick_admitted d s w (checked_pass d w (length s) (length out) e).0 four
 
   pub look_trials : r.trials ≤ length s

@@ -1,21 +1,18 @@
 -- What an answer says in document 01's numbers, and what a call leaves behind: the state handed back and the lent buffer's content.
-use Rattle.std.specs.Prelude.{ℕ, Bool, true, false, cond, List, [], ◌∷◌, ◌≡◌, leb}
-use Rattle.std.proofs.Math.Option.{Option, none, some}
+use Rattle.std.specs.Prelude.{ℕ, Bool, true, false, cond, List, [], ◌∷◌, ◌≡◌, leb, Option, None, Some, Ok, Err}
 use Rattle.std.proofs.lemmas.List.Edits.{sets}
 use Rattle.plan.specs.declared.Definition.{Definition}
 use Rattle.plan.specs.Plan.{fields}
 use Rattle.reader.specs.Search.{byte_of}
 use Rattle.section.specs.declared.Answer.{Answer}
 use Rattle.section.specs.declared.Answer.TheVariants.{Passed, Rejected, Event, Intra, Inter, Slow, Over, Refused}
-use Rattle.section.specs.declared.Check.{Check}
-use Rattle.section.specs.declared.Check.TheVariants as check
 use Rattle.section.specs.declared.Ending.TheVariants.{Going, Done, Out, Cut}
 use Rattle.section.specs.declared.Looked.{Looked}
 use Rattle.section.specs.declared.MainAnswer.{MainAnswer}
 use Rattle.section.specs.declared.Refusal.{Refusal}
 use Rattle.section.specs.declared.Refusal.TheVariants.{Unsound, TooShort}
 use Rattle.section.specs.declared.Walk.{Walk}
-use Rattle.section.specs.Refusals.{admitted}
+use Rattle.section.specs.Refusals.{Check, admitted}
 use Rattle.section.specs.Walk.{Outcome}
 
 -- a number and values
@@ -54,12 +51,12 @@ abbrev pub Finding : Type 0
 Finding = Option Paper
 
 unfoldable pub found : Check → Finding
-found check.Pass = none
-found (check.Refused why) = some (paper_of (Refused why))
+found (Ok u) = None
+found (Err why) = Some (paper_of (Refused why))
 
 -- 10 at 0, and behind it 11 with the needed length, for a buffer that has to have so many places
 unfoldable pub refusal_for : (least : ℕ) → Definition → Walk → (length room : ℕ) → Finding
-refusal_for least d w z room = cond (admitted d z w) (cond (leb least room) none (some (refusal 11 least))) (some (refusal 10 0))
+refusal_for least d w z room = cond (admitted d z w) (cond (leb least room) None (Some (refusal 11 least))) (Some (refusal 10 0))
 
 -- done, out of data, cut and refusals are no frames, and the same call again gives none
 unfoldable pub is_over : Answer → Bool
@@ -107,5 +104,5 @@ refusing why w out = record { said = paper_of (Refused why); trials = 0; walk = 
 
 -- an outcome, unless the check refuses it
 unfoldable pub checked_first : Check → Outcome → Walk → (out : List ℕ) → Told
-checked_first check.Pass o w out = handed o out
-checked_first (check.Refused why) o w out = refusing why w out
+checked_first (Ok u) o w out = handed o out
+checked_first (Err why) o w out = refusing why w out

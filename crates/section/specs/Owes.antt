@@ -1,5 +1,5 @@
 -- What each public function of this crate owes.
-use Rattle.std.specs.Prelude.{ℕ, Bool, List, ◌≡◌, length, replicate}
+use Rattle.std.specs.Prelude.{ℕ, Bool, List, ◌≡◌, length, take, replicate}
 use Rattle.std.proofs.lemmas.List.Edits.{sets}
 use Rattle.plan.specs.declared.Definition.{Definition}
 use Rattle.extent.specs.declared.Glance.{Glance}
@@ -7,16 +7,16 @@ use Rattle.extent.specs.declared.Look.{Look}
 use Rattle.extent.specs.declared.Seen.{Seen}
 use Rattle.extent.specs.Sight.{beside}
 use Rattle.section.specs.declared.Answer.{Answer}
-use Rattle.section.specs.declared.Check.{Check}
 use Rattle.section.specs.declared.Looked.{Looked}
 use Rattle.section.specs.declared.quick.Light.{Light}
 use Rattle.section.specs.declared.quick.Settled.{Settled}
+use Rattle.section.specs.declared.quick.Values.{Values}
 use Rattle.section.specs.declared.Refusal.{Refusal}
 use Rattle.section.specs.declared.Tally.{Tally}
 use Rattle.section.specs.declared.Walk.{Walk}
-use Rattle.section.specs.Answers.{found, refusal_for, is_over, told, handed, Tells, refusing, checked_first}
-use Rattle.section.specs.Lent.{light_of, walk_of, told_beside}
-use Rattle.section.specs.Refusals.{admitted, needed, checked}
+use Rattle.section.specs.Answers.{found, refusal_for, is_over, paper_of, hands_out, told, handed, Tells, refusing, checked_first}
+use Rattle.section.specs.Lent.{light_of, values_of, walk_of, told_beside}
+use Rattle.section.specs.Refusals.{Check, admitted, needed, checked}
 use Rattle.section.specs.Tally.{tally_after}
 use Rattle.section.specs.Walk.{start, settled, over, tick}
 
@@ -38,6 +38,9 @@ CheckOwes d w z room r = found r ≡ refusal_for (needed d) d w z room
 abbrev pub PutOwes : (values out after : List ℕ) → Type 0
 PutOwes values out after = after ≡ sets out 0 values
 
+abbrev pub FieldsOfOwes : Definition → Answer → ℕ → Type 0
+FieldsOfOwes d answer r = r ≡ hands_out d answer
+
 abbrev pub RefusedOwes : Refusal → Walk → Looked → Type 0
 RefusedOwes why w r = (out : List ℕ) → told r out ≡ refusing why w out
 
@@ -51,17 +54,28 @@ AfterOwes t x z r = r ≡ tally_after x z t
 abbrev pub SettleOwes : Definition → Walk → Look → (length : ℕ) → (out : List ℕ) → Looked → (after : List ℕ) → Type 0
 SettleOwes d w l z out r after = told r after ≡ handed (settled d l z w) out
 
--- in lent rooms: a walk in parts, and what a look does to it; the rooms `values` hold the fields, and 0 behind the last, whatever they held before
+-- in lent rooms: a walk in parts, and what a look does to it; the rooms for the fields hold them, and 0 behind the last, whatever they held before
 abbrev pub LightOwes : Walk → Light → Type 0
 LightOwes w r = r ≡ light_of w
 
-abbrev pub WithOwes : Light → (last older : List ℕ) → Walk → Type 0
-WithOwes w last older r = r ≡ walk_of w last older
+abbrev pub ValuesOwes : Walk → Values → Type 0
+ValuesOwes w r = r ≡ values_of w
 
-abbrev pub SettleInOwes : Definition → Light → Glance → (raws : List ℕ) → (length : ℕ)
-    → (last older : List ℕ) → Settled → (last' older' values : List ℕ) → Type 0
-SettleInOwes d w g raws z last older r last' older' values =
-    told_beside r last' older' values ≡ handed (settled d (beside g raws) z (walk_of w last older)) (replicate 62 0)
+abbrev pub WithOwes : Light → Values → Walk → Type 0
+WithOwes w v r = r ≡ walk_of w v
+
+abbrev pub SettleInOwes : Definition → Light → Glance → (raws : List ℕ) → (length : ℕ) → Values → Settled → (after : Values) → Type 0
+SettleInOwes d w g raws z v r after = told_beside r after ≡ handed (settled d (beside g raws) z (walk_of w v)) (replicate 62 0)
+
+-- the whole walk with its values, and of its fields as many as the answer hands out in a buffer
+abbrev pub HandOutOwes : Definition → Settled → Values → (out : List ℕ) → Looked → (after : List ℕ) → Type 0
+HandOutOwes d x v out r after =
+    told r after ≡ record {
+      said = paper_of x.answer;
+      trials = x.walk.tally.trials;
+      walk = walk_of x.walk v;
+      out = sets out 0 (take (hands_out d x.answer) v.fields);
+    }
 
 -- one look at a section, and a buffer before and after it
 abbrev pub LookOwes : Definition → Walk → List ℕ → (out : List ℕ) → Looked → (after : List ℕ) → Type 0

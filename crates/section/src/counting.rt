@@ -10,35 +10,29 @@ use event::Event;
 use extent::{Found, Seen};
 
 // Where in the counts an accepted frame is counted.
+#[tactic(auto, unfolding(crate::specs::Tally::part_of))]
 fn part_of(frame: Found) -> usize
     ensures { (result ≡ part_of frame) × (result < 4) }
 {
     match frame {
         Found::Event(_) => 1,
-        Found::Intra => 0,
-        Found::Inter => 0,
+        Found::Intra | Found::Inter => 0,
         Found::Slow => 2,
     }
 }
 
 // The last event ends the walk.
+#[tactic(auto, unfolding(crate::specs::Tally::ended_by))]
 fn ended_by(frame: Found) -> Ending
     ensures { result ≡ ended_by frame }
 {
     match frame {
-        Found::Event(event) => {
-            if event.code == 255 {
-                Ending::Done
-            } else {
-                Ending::Going
-            }
-        }
-        Found::Intra => Ending::Going,
-        Found::Inter => Ending::Going,
-        Found::Slow => Ending::Going,
+        Found::Event(event) if event.code == 255 => Ending::Done,
+        _ => Ending::Going,
     }
 }
 
+#[tactic(auto, unfolding(crate::specs::Tally::one_more))]
 fn one_more(counts: [usize; 4], i: usize) -> [usize; 4]
     requires { (i < 4) × (get_or counts i 0 < 18446744073709551615) }
     ensures { result ≡ one_more counts i }
@@ -50,6 +44,7 @@ fn one_more(counts: [usize; 4], i: usize) -> [usize; 4]
 
 impl Tally {
     // The tally behind a look at a section of so many bytes.
+    #[tactic(auto, unfolding(extent::specs::Extent::span))]
     pub fn after(self, seen: Seen, length: usize) -> Tally
         requires { Fits self seen length }
         ensures { AfterOwes self seen length result }
@@ -57,16 +52,13 @@ impl Tally {
         let counts = self.counts;
         match seen {
             Seen::Nothing => Tally {
-                place: self.place,
                 ending: Ending::Out,
-                counts,
-                trials: self.trials,
+                ..self
             },
             Seen::Passed(skip) => Tally {
                 place: self.place + 1 + skip.by,
                 ending: Ending::Going,
-                counts,
-                trials: self.trials,
+                ..self
             },
             Seen::Rejected(_, skip) => Tally {
                 place: self.place + 1 + skip.by,
@@ -77,8 +69,8 @@ impl Tally {
             Seen::Cutoff(kind) => Tally {
                 place: length,
                 ending: Ending::Cut(kind, self.place),
-                counts,
                 trials: self.trials + 1,
+                ..self
             },
             Seen::Accepted(frame, more) => Tally {
                 place: self.place + 1 + more,

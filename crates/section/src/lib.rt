@@ -2,22 +2,21 @@
 // A walk is a value: every function takes it and hands it back, and its history with it.
 #![tactic(auto)]
 
-ghost use Rattle.std.specs.Prelude.{true, ◌≡◌, min};
+ghost use Rattle.std.specs.Prelude.{true, ◌≡◌};
 ghost use Rattle.std.proofs.Math.ListN as ListN;
 ghost use Rattle.section.specs.Answers.{told, handed};
 ghost use Rattle.section.specs.Fits.{Fits, Rooms};
-ghost use Rattle.section.specs.Owes.{IsOverOwes, StartOwes, PutOwes, RefusedOwes, OverOwes, SettleOwes, LookOwes};
+ghost use Rattle.section.specs.Owes.{IsOverOwes, StartOwes, PutOwes, FieldsOfOwes, RefusedOwes, OverOwes, SettleOwes, LookOwes};
 ghost use Rattle.section.specs.Refusals.{admitted};
 ghost use Rattle.section.specs.Walk.{tick};
 
 use crate::refusals::check;
 use event::Event;
-use extent::{Look, Seen};
+use extent::{Glance, Look};
 use history::History;
 use plan::Definition;
 use reader::Kind;
 
-mod accepted;
 pub mod counting;
 pub mod quick;
 pub mod refusals;
@@ -72,12 +71,6 @@ pub enum Refusal {
     TooShort(usize),
 }
 
-#[derive(Clone, Copy)]
-pub enum Check {
-    Pass,
-    Refused(Refusal),
-}
-
 // What a look answers. The first two are in vain, and no call answers them: a byte that starts no frame, and a rejected trial with its kind and place.
 #[derive(Clone, Copy)]
 pub enum Answer {
@@ -101,24 +94,17 @@ pub struct Looked {
 
 impl Answer {
     // Whether it is an ending or a refusal: the same call again gives no frame.
+    #[tactic(auto, unfolding(crate::specs::Answers::is_over))]
     pub fn is_over(self) -> bool
         ensures { IsOverOwes self result }
     {
-        match self {
-            Answer::Passed => false,
-            Answer::Rejected(_, _) => false,
-            Answer::Event(_) => false,
-            Answer::Intra(_) => false,
-            Answer::Inter(_) => false,
-            Answer::Slow(_) => false,
-            Answer::Over(_) => true,
-            Answer::Refused(_) => true,
-        }
+        matches!(self, Answer::Over(_) | Answer::Refused(_))
     }
 }
 
 impl Walk {
     // A walk that has not begun.
+    #[tactic(auto, unfolding(crate::specs::Walk::start))]
     pub fn start() -> Walk
         ensures { StartOwes result }
     {
@@ -134,25 +120,17 @@ impl Walk {
     }
 }
 
-fn lesser(a: usize, b: usize) -> usize
-    ensures { result ≡ min a b }
-{
-    if a < b { a } else { b }
-}
-
 // Puts values in front of a buffer, as many as it has places; the rest keep their content.
+#[tactic(auto, using(crate::proofs::Filling::in_front))]
 pub fn put(values: &[u32], out: &mut [u32])
     ensures { PutOwes values.now out.old out.new }
 {
-    let n = lesser(values.len(), out.len());
-    let mut i = 0;
-    while i < n {
-        out[i] = values[i];
-        i += 1;
-    }
+    let n = values.len().min(out.len());
+    out[..n].copy_from_slice(&values[..n]);
 }
 
 // A refusal hands the walk back, and reports no trials.
+#[tactic(auto, unfolding(crate::specs::Answers::refusing))]
 pub fn refused(why: Refusal, w: Walk) -> Looked
     ensures { RefusedOwes why w result }
 {
@@ -164,45 +142,44 @@ pub fn refused(why: Refusal, w: Walk) -> Looked
 }
 
 // A walk that has ended.
+#[tactic(auto, unfolding(crate::specs::Answers::handed, crate::specs::Walk::over))]
 pub fn over(w: Walk) -> Looked
     ensures { OverOwes w result }
 {
     let tally = w.tally;
-    let ending = tally.ending;
     Looked {
-        answer: Answer::Over(ending),
+        answer: Answer::Over(tally.ending),
         trials: tally.trials,
         walk: w,
     }
 }
 
-// What a look does to a walk over a section of so many bytes.
+// How many fields an answer hands out.
+#[tactic(auto, unfolding(crate::specs::Answers::hands_out))]
+pub fn fields_of(d: Definition, answer: Answer) -> usize
+    ensures { FieldsOfOwes d answer result }
+{
+    match answer {
+        Answer::Intra(_) | Answer::Inter(_) => d.main.fields(),
+        Answer::Slow(_) => d.slow.n,
+        _ => 0,
+    }
+}
+
+// What a look does to a walk over a section of so many bytes: `settle_in`, with rooms of its own.
 pub fn settle(d: Definition, w: Walk, l: Look, length: usize, out: &mut [u32]) -> Looked
     requires { Fits w.tally l.seen length × Rooms d (ListN.length out.old) }
     ensures { SettleOwes d w l length out.old result out.new }
 {
-    let before = w.tally;
-    let history = w.history;
-    let seen = l.seen;
-    let tally = before.after(seen, length);
-    match seen {
-        Seen::Nothing => accepted::looked(Answer::Over(Ending::Out), tally, history),
-        Seen::Passed(_) => accepted::looked(Answer::Passed, tally, history),
-        Seen::Rejected(kind, _) => {
-            accepted::looked(Answer::Rejected(kind, before.place), tally, history)
-        }
-        Seen::Cutoff(kind) => {
-            accepted::looked(
-                Answer::Over(Ending::Cut(kind, before.place)),
-                tally,
-                history,
-            )
-        }
-        Seen::Accepted(frame, _) => {
-            let raw = l.raw;
-            accepted::settle(d, frame, raw, before.place, tally, history, out)
-        }
-    }
+    let raw = l.raw;
+    let glance = Glance {
+        seen: l.seen,
+        iteration: raw.iteration,
+        time: raw.time,
+    };
+    let mut values = w.values();
+    let settled = quick::settle_in(d, w.light(), glance, &raw.fields, length, &mut values);
+    settled.hand_out(d, &values, out)
 }
 
 // A look from an admitted walk.
@@ -211,15 +188,12 @@ fn look_once(d: Definition, w: Walk, s: &[u8], out: &mut [u32]) -> Looked
     ensures { told result out.new ≡ handed (tick d s.now w) out.old }
 {
     let tally = w.tally;
-    let ending = tally.ending;
-    match ending {
+    match tally.ending {
         Ending::Going => {
             let l = extent::sight(d, s, tally.place);
             settle(d, w, l, s.len(), out)
         }
-        Ending::Done => over(w),
-        Ending::Out => over(w),
-        Ending::Cut(_, _) => over(w),
+        _ => over(w),
     }
 }
 
@@ -227,9 +201,8 @@ fn look_once(d: Definition, w: Walk, s: &[u8], out: &mut [u32]) -> Looked
 pub fn look(d: Definition, w: Walk, s: &[u8], out: &mut [u32]) -> Looked
     ensures { LookOwes d w s.now out.old result out.new }
 {
-    let verdict = check(d, w, s.len(), out.len());
-    match verdict {
-        Check::Pass => look_once(d, w, s, out),
-        Check::Refused(why) => refused(why, w),
+    match check(d, w, s.len(), out.len()) {
+        Ok(()) => look_once(d, w, s, out),
+        Err(why) => refused(why, w),
     }
 }

@@ -1,15 +1,14 @@
 // What a look does to a walk whose values stand in lent rooms: the faster form of `settle`, for whole walks.
 // Only small structs go by value, so that nothing is copied but the values of an accepted main frame. The fields go to lent rooms too, 0 behind the last.
-ghost use Rattle.std.specs.Prelude.{◌≡◌, replicate};
-ghost use Rattle.extent.specs.Sight.{beside};
+ghost use Rattle.std.specs.Prelude.{◌≡◌, [], replicate};
 ghost use Rattle.frame.specs.Parts.{raw_of};
-ghost use Rattle.history.specs.Parts.{history_of};
 ghost use Rattle.section.specs.Answers.{handed};
 ghost use Rattle.section.specs.Fits.{Fits, Rooms};
-ghost use Rattle.section.specs.Lent.{told_beside, walk_of, light_of};
-ghost use Rattle.section.specs.Walk.{answer_with, fields_with, history_with, outcome, settled};
+ghost use Rattle.section.specs.Lent.{history_beside, told_beside};
+ghost use Rattle.section.specs.Owes.{LightOwes, ValuesOwes, WithOwes, HandOutOwes, SettleInOwes};
+ghost use Rattle.section.specs.Walk.{answer_with, fields_with, history_with, outcome};
 
-use crate::{Answer, Ending, EventAnswer, MainAnswer, SlowAnswer, Tally, Walk};
+use crate::{Answer, Ending, EventAnswer, Looked, MainAnswer, SlowAnswer, Tally, Walk};
 use extent::{Found, Glance, Seen};
 use frame::Head;
 use history::Heads;
@@ -22,6 +21,14 @@ pub struct Light {
     pub heads: Heads,
 }
 
+// The values beside it: those of its last and its older frame, and the fields of its last answer, 0 behind the last of them.
+#[derive(Clone, Copy)]
+pub struct Values {
+    pub last: [u32; 62],
+    pub older: [u32; 62],
+    pub fields: [u32; 62],
+}
+
 // An answer, and the walk behind it.
 #[derive(Clone, Copy)]
 pub struct Settled {
@@ -29,29 +36,57 @@ pub struct Settled {
     pub walk: Light,
 }
 
-impl Light {
-    // With the values: the whole walk.
-    pub fn with(self, last: [u32; 62], older: [u32; 62]) -> Walk
-        ensures { result ≡ walk_of self last older }
+impl Walk {
+    pub fn light(self) -> Light
+        ensures { LightOwes self result }
     {
-        let tally = self.tally;
-        let heads = self.heads;
-        Walk {
-            tally,
-            history: heads.with(last, older),
+        let heads = self.history.heads();
+        Light {
+            tally: self.tally,
+            heads,
+        }
+    }
+
+    // What stands beside its light, with no fields yet.
+    pub fn values(self) -> Values
+        ensures { ValuesOwes self result }
+    {
+        let last = self.history.last.values;
+        let older = self.history.older.values;
+        Values {
+            last,
+            older,
+            fields: [0u32; 62],
         }
     }
 }
 
-impl Walk {
-    pub fn light(self) -> Light
-        ensures { result ≡ light_of self }
+impl Light {
+    // With the values: the whole walk.
+    pub fn with(self, values: &Values) -> Walk
+        ensures { WithOwes self values.now result }
     {
-        let tally = self.tally;
-        let history = self.history;
-        Light {
-            tally,
-            heads: history.heads(),
+        Walk {
+            tally: self.tally,
+            history: self.heads.with(values.last, values.older),
+        }
+    }
+}
+
+impl Settled {
+    // With the values: the whole walk. Its fields go to the lent buffer.
+    pub fn hand_out(self, d: Definition, values: &Values, out: &mut [u32]) -> Looked
+        requires { Rooms d 62 }
+        ensures { HandOutOwes d self values.now out.old result out.new }
+    {
+        let answer = self.answer;
+        let walk = self.walk;
+        let n = crate::fields_of(d, answer);
+        crate::put(&values.fields[..n], out);
+        Looked {
+            answer,
+            trials: walk.tally.trials,
+            walk: walk.with(values),
         }
     }
 }
@@ -76,10 +111,11 @@ fn light_with(answer: Answer, tally: Tally, heads: Heads) -> Settled
 }
 
 // An answer without fields: the rooms for them are emptied.
-fn still(answer: Answer, tally: Tally, heads: Heads, values: &mut [u32; 62]) -> Settled
-    ensures { (result ≡ record { answer = answer; walk = record { tally = tally; heads = heads } }) × (values.new ≡ replicate 62 0) }
+#[tactic(auto, using(crate::proofs::Lent::settled_tells), unfolding(crate::specs::Answers::handed))]
+fn still(answer: Answer, tally: Tally, heads: Heads, values: &mut Values) -> Settled
+    ensures { told_beside result values.new ≡ handed (outcome answer [] tally (history_beside heads values.old)) (replicate 62 0) }
 {
-    raws::clear(values);
+    raws::clear(&mut values.fields);
     light_with(answer, tally, heads)
 }
 
@@ -92,20 +128,16 @@ fn accept(
     at: usize,
     tally: Tally,
     heads: Heads,
-    last: &mut [u32; 62],
-    older: &mut [u32; 62],
-    values: &mut [u32; 62],
+    values: &mut Values,
 ) -> Settled
     requires { Rooms d 62 }
-    ensures { told_beside result last.new older.new values.new ≡
+    ensures { told_beside result values.new ≡
         handed
-        (outcome (answer_with d frame at (raw_of g.iteration g.time raws.now) (history_of heads last.old older.old))
-        (fields_with d frame (raw_of g.iteration g.time raws.now) (history_of heads last.old older.old)) tally
-        (history_with d frame (raw_of g.iteration g.time raws.now) (history_of heads last.old older.old)))
+        (outcome (answer_with d frame at (raw_of g.iteration g.time raws.now) (history_beside heads values.old))
+        (fields_with d frame (raw_of g.iteration g.time raws.now) (history_beside heads values.old)) tally
+        (history_with d frame (raw_of g.iteration g.time raws.now) (history_beside heads values.old)))
         (replicate 62 0) }
 {
-    let was_last = heads.last;
-    let was_older = heads.older;
     match frame {
         Found::Event(event) => {
             still(
@@ -116,68 +148,60 @@ fn accept(
             )
         }
         Found::Intra => {
-            let head = frame::intra_in(d, was_last, last, g.iteration, g.time, raws, values);
-            history::push_values(values, last, older);
+            let head = frame::intra_in(
+                d,
+                heads.last,
+                &values.last,
+                g.iteration,
+                g.time,
+                raws,
+                &mut values.fields,
+            );
+            history::push_values(&values.fields, &mut values.last, &mut values.older);
             light_with(Answer::Intra(shown(at, head)), tally, heads.pushed(head))
         }
         Found::Inter => {
-            let head = frame::inter_in(d, was_last, last, was_older, older, g.time, raws, values);
-            history::push_values(values, last, older);
+            let head = frame::inter_in(
+                d,
+                heads.last,
+                &values.last,
+                heads.older,
+                &values.older,
+                g.time,
+                raws,
+                &mut values.fields,
+            );
+            history::push_values(&values.fields, &mut values.last, &mut values.older);
             light_with(Answer::Inter(shown(at, head)), tally, heads.pushed(head))
         }
         Found::Slow => {
-            frame::slow_in(d, raws, values);
+            frame::slow_in(d, raws, &mut values.fields);
             light_with(Answer::Slow(SlowAnswer { at }), tally, heads)
         }
     }
 }
 
 // What a look does to a walk over a section of so many bytes.
+#[tactic(auto, unfolding(crate::specs::Walk::settled, crate::specs::Walk::answer_after, crate::specs::Walk::fields_after, crate::specs::Walk::history_after,))]
 pub fn settle_in(
     d: Definition,
     w: Light,
     g: Glance,
     raws: &[u32; 62],
     length: usize,
-    last: &mut [u32; 62],
-    older: &mut [u32; 62],
-    values: &mut [u32; 62],
+    values: &mut Values,
 ) -> Settled
     requires { Fits w.tally g.seen length × Rooms d 62 }
-    ensures { told_beside result last.new older.new values.new ≡
-        handed (settled d (beside g raws.now) length (walk_of w last.old older.old)) (replicate 62 0) }
+    ensures { SettleInOwes d w g raws.now length values.old result values.new }
 {
-    let before = w.tally;
+    let at = w.tally.place;
     let heads = w.heads;
-    let seen = g.seen;
-    let tally = before.after(seen, length);
-    match seen {
+    let tally = w.tally.after(g.seen, length);
+    match g.seen {
         Seen::Nothing => still(Answer::Over(Ending::Out), tally, heads, values),
         Seen::Passed(_) => still(Answer::Passed, tally, heads, values),
-        Seen::Rejected(kind, _) => {
-            still(Answer::Rejected(kind, before.place), tally, heads, values)
-        }
-        Seen::Cutoff(kind) => {
-            still(
-                Answer::Over(Ending::Cut(kind, before.place)),
-                tally,
-                heads,
-                values,
-            )
-        }
-        Seen::Accepted(frame, _) => {
-            accept(
-                d,
-                frame,
-                g,
-                raws,
-                before.place,
-                tally,
-                heads,
-                last,
-                older,
-                values,
-            )
-        }
+        Seen::Rejected(kind, _) => still(Answer::Rejected(kind, at), tally, heads, values),
+        Seen::Cutoff(kind) => still(Answer::Over(Ending::Cut(kind, at)), tally, heads, values),
+        Seen::Accepted(frame, _) => accept(d, frame, g, raws, at, tally, heads, values),
     }
 }

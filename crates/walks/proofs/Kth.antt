@@ -1,6 +1,7 @@
 -- A walk from the start that comes to a frame has counted k frames of its sort before it, and the frame is of that sort: it is the k-th, from 0.
 -- So is every answer that the promise of `fill` admits, unless it is over.
 use Prim.Native.Nat.{ℕ, zero, suc, ◌+◌, ◌≤◌, ◌<◌}
+use Rattle.std.specs.Prelude.{Ok, Err}
 use mathlib.Core.Bool.{Bool, true, false, ◌||◌, true≢false}
 use mathlib.Core.List.{List}
 use mathlib.Core.Logic.{◌⊎◌, inl, inr, ⊎_elim}
@@ -20,15 +21,14 @@ use Rattle.extent.specs.declared.Seen.{Seen}
 use Rattle.extent.specs.declared.Seen.TheVariants as seen
 use Rattle.section.specs.declared.Answer.{Answer}
 use Rattle.section.specs.declared.Answer.TheVariants.{Passed, Rejected, Event, Intra, Inter, Slow, Over, Refused}
-use Rattle.section.specs.declared.Check.{Check}
-use Rattle.section.specs.declared.Check.TheVariants as check
 use Rattle.section.specs.declared.Looked.{Looked}
 use Rattle.section.specs.declared.Walk.{Walk}
 use Rattle.section.specs.Tally.{part_of, one_more, counts_after, tally_after}
 use Rattle.section.specs.Walk.{Outcome, start, answer_with, answer_after, settled, over, tick}
 use Rattle.section.specs.Answers.{Told, checked_first, handed, is_over, refusing, told}
-use Rattle.section.specs.Refusals.{checked}
+use Rattle.section.specs.Refusals.{Check, checked}
 use Rattle.section.proofs.Paper.{paper_injective}
+use Rattle.section.proofs.Stays.{tick_by}
 use Rattle.calls.specs.Call.{after, says, is_said, called}
 use Rattle.calls.proofs.Ticks.{tick_moves, tick_end}
 use Rattle.calls.proofs.Until.{after_suc, until_by}
@@ -37,7 +37,6 @@ use Rattle.walks.specs.declared.Sort.{Sort}
 use Rattle.walks.specs.declared.Sort.TheVariants as sort
 use Rattle.walks.specs.Owes.{FillOwes}
 use Rattle.walks.specs.Walks.{counted_at, is_reached, is_last, after_calls, walked, filled_of}
-use Rattle.walks.proofs.Each.{tick_by}
 use Rattle.walks.proofs.Walks.{walk_first, walked_is_last}
 
 -- a frame of a sort
@@ -116,7 +115,7 @@ module _ (d : Definition) (s : List ℕ) (of : Sort) where
 
   look_counts : (w : Walk) → Counts of (count_of of w) (count_of of (tick d s w).walk) (tick d s w).answer
   unfolding over
-  look_counts w = tick_by d s (λ o. Counts of (count_of of w) (count_of of o.walk) o.answer) w (λ l. settled_counts l w) (λ _. inl refl)
+  look_counts w = tick_by d s (λ o. Counts of (count_of of w) (count_of of o.walk) o.answer) w (λ _. settled_counts _ w) (λ _. inl refl)
 
   vain_counts : (w : Walk) → says (tick d s w).answer ≡ false → count_of of (tick d s w).walk ≡ count_of of w
   vain_counts w e = ⊎_elim (λ q. q) (λ q. absurd (true≢false (sym (of_says of (tick d s w).answer q.1) ∙ e))) (look_counts w)
@@ -180,10 +179,10 @@ fill_kth d s of k out r {after} owes going = by_check (checked d start (length s
   where
     by_check : (c : Check) → told r after ≡ checked_first c (walked (Frame of k) d s start) start out
         → (is_of of r.answer ≡ true) × (count_of of r.walk ≡ k + 1)
-    by_check check.Pass e =
+    by_check (Ok u) e =
         let o = walked (Frame of k) d s start in
         let answer = paper_injective r.answer o.answer (ap (λ (x : Told). x.said) e) in
         let kth = kth_frame d s of k start (start_few of k) (sym (ap is_over answer) ∙ going) in
         (ap (is_of of) answer ∙ kth.1, ap (λ (x : Told). count_of of x.walk) e ∙ kth.0)
-    by_check (check.Refused why) e =
+    by_check (Err why) e =
         let answer = paper_injective r.answer (Refused why) (ap (λ (x : Told). x.said) e) in absurd (true≢false (sym (ap is_over answer) ∙ going))

@@ -1,11 +1,8 @@
-pub mod Each
 pub mod Fields
 pub mod Kept
 pub mod Kth
-pub mod Last
 pub mod One
 pub mod Over
-pub mod Rooms
 pub mod Turns
 pub mod Walks
 pub mod Whole

@@ -4,14 +4,13 @@ use mathlib.Core.List.{List, []}
 use mathlib.Core.Path.{◌≡◌, ap}
 use Rattle.plan.specs.declared.Definition.{Definition}
 use Rattle.reader.proofs.One.{one_answer}
-use Rattle.section.specs.declared.Answer.{Answer}
 use Rattle.section.specs.declared.Looked.{Looked}
 use Rattle.section.specs.declared.Walk.{Walk}
 use Rattle.section.proofs.Paper.{paper_injective}
 use Rattle.section.proofs.One.{told_one}
 use Rattle.walks.specs.declared.Counted.{Counted}
 use Rattle.walks.specs.declared.Sort.{Sort}
-use Rattle.walks.specs.Owes.{ThroughOwes, CountOwes, FieldsOfOwes, FillOwes, counts}
+use Rattle.walks.specs.Owes.{ThroughOwes, CountOwes, FillOwes, counts}
 use Rattle.walks.specs.Walks.{Counts}
 
 pub through_one : (d : Definition) (w : Walk) (s : List ℕ) (r t : Looked) → ThroughOwes d w s r → ThroughOwes d w s t → r ≡ t
@@ -22,9 +21,6 @@ count_one d s r t p q =
     let e : counts r ≡ counts t = one_answer p q in
     let answer = paper_injective r.answer t.answer (ap (λ (x : Counts). x.said) e) in
     λ i. record { answer = answer i; tally = (e i).tally }
-
-pub fields_of_one : (d : Definition) (answer : Answer) (r t : ℕ) → FieldsOfOwes d answer r → FieldsOfOwes d answer t → r ≡ t
-fields_of_one d answer r t p q = one_answer p q
 
 pub fill_one : (d : Definition) (s : List ℕ) (of : Sort) (k : ℕ) (out : List ℕ) (r t : Looked) (a b : List ℕ)
     → FillOwes d s of k out r a → FillOwes d s of k out t b → (r ≡ t) × (a ≡ b)

@@ -17,11 +17,12 @@ use Rattle.section.specs.Tally.{ending_after, tally_after}
 use Rattle.section.specs.Walk.{Outcome, answer_with, answer_after, fields_after, history_after, settled, over, tick}
 use Rattle.section.specs.Answers.{is_over, handed, checked_first}
 use Rattle.calls.specs.Call.{after, says, called}
+use Rattle.section.proofs.Stays.{tick_by}
+use Rattle.calls.proofs.Fields.{called_by}
 use Rattle.calls.proofs.Ticks.{over_says, call_says}
 use Rattle.calls.proofs.Turns.{Kept, called_kept}
 use Rattle.walks.specs.declared.Goal.TheVariants.{End}
 use Rattle.walks.specs.Walks.{is_reached, is_last, walked, checked_state, through_of}
-use Rattle.walks.proofs.Each.{tick_by, called_by}
 use Rattle.walks.proofs.Walks.{walk_last, walk_on}
 
 -- an accepted frame is not over
@@ -46,7 +47,7 @@ module _ (d : Definition) (s : List ℕ) where
 
   tick_stays : (w : Walk) → Stays (tick d s w)
   unfolding over
-  tick_stays w = tick_by d s Stays w (λ l. settled_stays w l.seen l.raw) (λ same e. same)
+  tick_stays w = tick_by d s Stays w (λ _. settled_stays w _ _) (λ same e. same)
 
   call_stays : (w : Walk) → Stays (called d s w)
   call_stays = called_by d s Stays tick_stays

@@ -1,3 +1,2 @@
 pub mod Owes
-pub mod Reached
 pub mod Walks

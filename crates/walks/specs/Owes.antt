@@ -1,10 +1,9 @@
 -- What each public function of this crate owes.
 use Rattle.std.specs.Prelude.{ℕ, List, [], ◌≡◌}
 use Rattle.plan.specs.declared.Definition.{Definition}
-use Rattle.section.specs.declared.Answer.{Answer}
 use Rattle.section.specs.declared.Looked.{Looked}
 use Rattle.section.specs.declared.Walk.{Walk}
-use Rattle.section.specs.Answers.{hands_out, paper_of, told}
+use Rattle.section.specs.Answers.{paper_of, told}
 use Rattle.section.specs.Walk.{start}
 use Rattle.walks.specs.declared.Counted.{Counted}
 use Rattle.walks.specs.declared.Sort.{Sort}
@@ -18,9 +17,6 @@ counts r = record { said = paper_of r.answer; tally = r.tally }
 
 abbrev pub CountOwes : Definition → List ℕ → Counted → Type 0
 CountOwes d s r = counts r ≡ counts_of (through_of d s start)
-
-abbrev pub FieldsOfOwes : Definition → Answer → ℕ → Type 0
-FieldsOfOwes d answer r = r ≡ hands_out d answer
 
 -- a buffer before and after it
 abbrev pub FillOwes : Definition → List ℕ → Sort → (k : ℕ) → (out : List ℕ) → Looked → (after : List ℕ) → Type 0

@@ -1,13 +1,11 @@
 -- A whole walk: calls until one is over; the frames that it counts; the k-th frame of a sort (document 01, "Module order", the database host).
-use Rattle.std.specs.Prelude.{ℕ, Bool, false, cond, ◌||◌, List, [], ltb, length, get_or}
+use Rattle.std.specs.Prelude.{ℕ, Bool, false, cond, ◌||◌, List, [], ltb, length, get_or, Err}
 use Rattle.plan.specs.declared.Definition.{Definition}
 use Rattle.section.specs.declared.Refusal.TheVariants.{Unsound}
-use Rattle.section.specs.declared.Check.{Check}
-use Rattle.section.specs.declared.Check.TheVariants as check
 use Rattle.section.specs.declared.Tally.{Tally}
 use Rattle.section.specs.declared.Walk.{Walk}
 use Rattle.section.specs.Answers.{Paper, Told, checked_first, is_over}
-use Rattle.section.specs.Refusals.{admitted, checked}
+use Rattle.section.specs.Refusals.{Check, pass, admitted, checked}
 use Rattle.section.specs.Walk.{Outcome, start}
 use Rattle.calls.specs.Call.{after, until, left, called}
 use Rattle.walks.specs.declared.Sort.{Sort}
@@ -38,7 +36,7 @@ walked goal d s w = until (called d s) (is_last goal) (left s w) w
 
 -- refusal 10 alone: a whole walk hands out no fields, so it needs no buffer
 unfoldable pub checked_state : Definition → (length : ℕ) → Walk → Check
-checked_state d z w = cond (admitted d z w) check.Pass (check.Refused Unsound)
+checked_state d z w = cond (admitted d z w) pass (Err Unsound)
 
 -- a whole walk from a state; there is no buffer
 unfoldable pub through_of : Definition → List ℕ → Walk → Told

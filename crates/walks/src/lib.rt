@@ -4,14 +4,15 @@
 
 ghost use Rattle.std.specs.Prelude.{true, ◌||◌, ◌≡◌, ◌<◌, length};
 ghost use Rattle.section.specs.Refusals.{admitted};
-ghost use Rattle.section.specs.Answers.{is_over};
-ghost use Rattle.walks.specs.Owes.{ThroughOwes, CountOwes, FieldsOfOwes, FillOwes};
-ghost use Rattle.walks.specs.Reached.{Reaches};
-ghost use Rattle.walks.specs.Walks.{counted_at, is_reached};
+ghost use Rattle.section.specs.Answers.{told, handed, is_over};
+ghost use Rattle.walks.specs.Owes.{ThroughOwes, CountOwes, FillOwes};
+ghost use Rattle.walks.specs.Walks.{counted_at, is_reached, walked};
 
 use calls::quick::step_in;
 use plan::Definition;
-use section::{Answer, Check, Looked, Refusal, Tally, Walk};
+pub use section::fields_of;
+use section::quick::Settled;
+use section::{Answer, Looked, Refusal, Tally, Walk};
 
 // The frames that have values.
 #[derive(Clone, Copy)]
@@ -27,13 +28,6 @@ pub enum Goal {
     Frame(Sort, usize),
 }
 
-// Where it stopped, and a buffer whose first values are those of the frame that it stopped at.
-#[derive(Clone, Copy)]
-struct Reached {
-    looked: Looked,
-    values: [u32; 62],
-}
-
 // How a whole walk from the section's start ended, or why it was refused, and what it counted.
 #[derive(Clone, Copy)]
 pub struct Counted {
@@ -41,6 +35,7 @@ pub struct Counted {
     pub tally: Tally,
 }
 
+#[tactic(auto, unfolding(crate::specs::Walks::counted_at))]
 fn counted_at(of: Sort) -> usize
     ensures { (result ≡ counted_at of) × (result < 4) }
 {
@@ -50,55 +45,40 @@ fn counted_at(of: Sort) -> usize
     }
 }
 
+#[tactic(auto, unfolding(crate::specs::Walks::is_reached))]
 fn is_reached(goal: Goal, tally: Tally) -> bool
     ensures { result ≡ is_reached goal tally }
 {
-    let counts = tally.counts;
     match goal {
         Goal::End => false,
-        Goal::Frame(of, k) => {
-            let i = counted_at(of);
-            k < counts[i]
-        }
+        Goal::Frame(of, k) => k < tally.counts[counted_at(of)],
     }
 }
 
 fn is_last(goal: Goal, answer: Answer, tally: Tally) -> bool
     ensures { result ≡ is_over answer || is_reached goal tally }
 {
-    if answer.is_over() {
-        return true;
-    }
-    is_reached(goal, tally)
+    answer.is_over() || is_reached(goal, tally)
 }
 
-// Calls from an admitted walk, to the goal or the end.
-fn walk_to(d: Definition, w: Walk, s: &[u8], goal: Goal) -> Reached
+// Calls from an admitted walk, to the goal or the end. The values of the last go to the lent buffer.
+fn walk_to(d: Definition, w: Walk, s: &[u8], goal: Goal, out: &mut [u32]) -> Looked
     requires { admitted d (length s.now) w ≡ true }
-    ensures { Reaches goal d w s.now result }
+    ensures { told result out.new ≡ handed (walked goal d s.now w) out.old }
 {
-    let history = w.history;
-    let last_frame = history.last;
-    let older_frame = history.older;
-    let mut last = last_frame.values;
-    let mut older = older_frame.values;
     let mut walk = w.light();
+    let mut values = w.values();
     let mut barren = false;
-    let mut values = [0u32; 62];
     loop {
-        let stepped = step_in(d, walk, s, barren, &mut last, &mut older, &mut values);
-        let answer = stepped.answer;
-        let next = stepped.walk;
-        let tally = next.tally;
-        if is_last(goal, answer, tally) {
-            let looked = Looked {
-                answer,
-                trials: tally.trials,
-                walk: next.with(last, older),
-            };
-            return Reached { looked, values };
+        let stepped = step_in(d, walk, s, barren, &mut values);
+        let settled = Settled {
+            answer: stepped.answer,
+            walk: stepped.walk,
+        };
+        if is_last(goal, settled.answer, settled.walk.tally) {
+            return settled.hand_out(d, &values, out);
         }
-        walk = next;
+        walk = settled.walk;
         barren = stepped.barren;
     }
 }
@@ -108,8 +88,7 @@ pub fn through(d: Definition, w: Walk, s: &[u8]) -> Looked
     ensures { ThroughOwes d w s.now result }
 {
     if section::refusals::admits(d, w, s.len()) {
-        let reached = walk_to(d, w, s, Goal::End);
-        return reached.looked;
+        return walk_to(d, w, s, Goal::End, &mut []);
     }
     section::refused(Refusal::Unsound, w)
 }
@@ -119,25 +98,10 @@ pub fn count(d: Definition, s: &[u8]) -> Counted
     ensures { CountOwes d s.now result }
 {
     let looked = through(d, Walk::start(), s);
-    let answer = looked.answer;
-    let walk = looked.walk;
-    let tally = walk.tally;
-    Counted { answer, tally }
-}
-
-// How many fields an answer hands out.
-pub fn fields_of(d: Definition, answer: Answer) -> usize
-    ensures { FieldsOfOwes d answer result }
-{
-    match answer {
-        Answer::Passed => 0,
-        Answer::Rejected(_, _) => 0,
-        Answer::Event(_) => 0,
-        Answer::Intra(_) => d.main.fields(),
-        Answer::Inter(_) => d.main.fields(),
-        Answer::Slow(_) => d.slow.n,
-        Answer::Over(_) => 0,
-        Answer::Refused(_) => 0,
+    let tally = looked.walk.tally;
+    Counted {
+        answer: looked.answer,
+        tally,
     }
 }
 
@@ -146,17 +110,8 @@ pub fn fill(d: Definition, s: &[u8], of: Sort, k: usize, out: &mut [u32]) -> Loo
     ensures { FillOwes d s.now of k out.old result out.new }
 {
     let w = Walk::start();
-    let verdict = section::refusals::check(d, w, s.len(), out.len());
-    match verdict {
-        Check::Pass => {
-            let reached = walk_to(d, w, s, Goal::Frame(of, k));
-            let looked = reached.looked;
-            let answer = looked.answer;
-            let values = reached.values;
-            let n = fields_of(d, answer);
-            section::put(&values[..n], out);
-            looked
-        }
-        Check::Refused(why) => section::refused(why, w),
+    match section::refusals::check(d, w, s.len(), out.len()) {
+        Ok(()) => walk_to(d, w, s, Goal::Frame(of, k), out),
+        Err(why) => section::refused(why, w),
     }
 }

@@ -6,13 +6,11 @@ use Rattle.section.proofs.Checks.{check_is}
 use Rattle.section.proofs.Looks.{first_passes, first_refused}
 use Rattle.calls.proofs.call.Goals as goal
 
-pub step-called-requires : goal.step-called-requires
-step-called-requires c = record { w_admitted = check_passes _ _ _ _ c.check-verdict.ensures c.in-Pass.is; barren = barren_false _ _ }
+pub step-requires : goal.step-requires
+step-requires c = record { w_admitted = check_passes _ _ _ _ c.check.ensures c.in-Ok.is; barren = barren_false _ _ }
 
-pub returns-in-Pass : goal.returns-in-Pass
-returns-in-Pass c =
-    first_passes _ _ _ (check_is _ _ _ _ c.check-verdict.ensures) c.in-Pass.is c.step-called.ensures.tells
+pub returns-in-Ok : goal.returns-in-Ok
+returns-in-Ok c = first_passes _ _ _ (check_is _ _ _ _ c.check.ensures) c.in-Ok.is c.step.ensures.tells
 
-pub returns-in-Refused : goal.returns-in-Refused
-returns-in-Refused c =
-    first_refused _ _ _ (check_is _ _ _ _ c.check-verdict.ensures) c.in-Refused.is (c.refused.ensures _)
+pub returns-in-Err : goal.returns-in-Err
+returns-in-Err c = first_refused _ _ _ (check_is _ _ _ _ c.check.ensures) c.in-Err.is (c.refused.ensures _)

@@ -1,15 +1,20 @@
--- `calls::step` meets its contract: a walk that goes on looks, and one that has ended stays as it is. It requires an admitted walk, rooms for the fields,
+-- `calls::step` meets its contract: the step of a walk in parts, which is joined again. It requires an admitted walk, rooms for the fields,
 -- and a flag that is right.
-use mathlib.Core.Path.{ap}
-use Rattle.section.proofs.Alike.{is_going}
-use Rattle.calls.proofs.Loop.{ended_steps}
+use Rattle.section.proofs.Fields.{most}
+use Rattle.calls.proofs.Lent.{apart_admitted, apart_barren, joined}
 use Rattle.calls.proofs.step.Goals as goal
 
-pub returns-in-Done : goal.returns-in-Done
-returns-in-Done c = ended_steps _ _ _ _ _ _ (ap is_going c.in-Done.is) c.over.ensures c.requires.barren
+pub step_in-stepped-requires : goal.step_in-stepped-requires
+step_in-stepped-requires c =
+    record {
+      walk_admitted = (apart_admitted _ _ _ c.light.ensures c.values-values.ensures c.requires.w_admitted.0, most c.args.d c.requires.w_admitted.1);
+      barren = apart_barren c.args.d _ c.args.w c.light.ensures c.values-values.ensures c.requires.barren;
+    }
 
-pub returns-in-Out : goal.returns-in-Out
-returns-in-Out c = ended_steps _ _ _ _ _ _ (ap is_going c.in-Out.is) c.over-in-Out.ensures c.requires.barren
+pub hand_out-requires : goal.hand_out-requires
+hand_out-requires c = most c.args.d c.requires.w_admitted.1
 
-pub returns-in-Cut : goal.returns-in-Cut
-returns-in-Cut c = ended_steps _ _ _ _ _ _ (ap is_going c.in-Cut.is) c.over-in-Cut.ensures c.requires.barren
+pub returns : goal.returns
+returns c =
+    joined _ _ _ c.light.ensures c.values-values.ensures c.requires.w_admitted.0 _ _ _ c.step_in-stepped.ensures
+    _ c.hand_out.ensures

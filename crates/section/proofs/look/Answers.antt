@@ -5,12 +5,10 @@ use Rattle.section.proofs.Looks.{first_passes, first_refused}
 use Rattle.section.proofs.look.Goals as goal
 
 pub look_once-requires : goal.look_once-requires
-look_once-requires c = check_passes _ _ _ _ c.check-verdict.ensures c.in-Pass.is
+look_once-requires c = check_passes _ _ _ _ c.check.ensures c.in-Ok.is
 
-pub returns-in-Pass : goal.returns-in-Pass
-returns-in-Pass c =
-    first_passes _ _ _ (check_is _ _ _ _ c.check-verdict.ensures)
-    c.in-Pass.is c.look_once.ensures
+pub returns-in-Ok : goal.returns-in-Ok
+returns-in-Ok c = first_passes _ _ _ (check_is _ _ _ _ c.check.ensures) c.in-Ok.is c.look_once.ensures
 
-pub returns-in-Refused : goal.returns-in-Refused
-returns-in-Refused c = first_refused _ _ _ (check_is _ _ _ _ c.check-verdict.ensures) c.in-Refused.is (c.refused.ensures _)
+pub returns-in-Err : goal.returns-in-Err
+returns-in-Err c = first_refused _ _ _ (check_is _ _ _ _ c.check.ensures) c.in-Err.is (c.refused.ensures _)

@@ -1,6 +1,5 @@
 -- `section::look_once` meets its contract: a walk that goes on looks, and one that has ended stays. Assumes an admitted walk and rooms for every field.
-use mathlib.Core.Path.{ap}
-use Rattle.section.proofs.Alike.{is_going}
+use Rattle.section.proofs.Alike.{not_going}
 use Rattle.section.proofs.Looks.{once_fits, once_going, once_over}
 use Rattle.section.proofs.Rooms.{walk_counts}
 use Rattle.section.proofs.look_once.Goals as goal
@@ -14,11 +13,5 @@ returns-in-Going c =
     once_going _ _ _ c.sight-l.ensures _
     c.in-Going.is c.settle.ensures
 
-pub returns-in-Done : goal.returns-in-Done
-returns-in-Done c = once_over _ _ _ _ (ap is_going c.in-Done.is) (c.over.ensures _)
-
-pub returns-in-Out : goal.returns-in-Out
-returns-in-Out c = once_over _ _ _ _ (ap is_going c.in-Out.is) (c.over-in-Out.ensures _)
-
-pub returns-in-Cut : goal.returns-in-Cut
-returns-in-Cut c = once_over _ _ _ _ (ap is_going c.in-Cut.is) (c.over-in-Cut.ensures _)
+pub returns-in_default : goal.returns-in_default
+returns-in_default c = once_over _ _ _ _ (not_going _ c.in_default.not-Going) (c.over.ensures _)

@@ -1,20 +1,21 @@
--- `section::settle` meets its contract: what each thing that was seen does to the walk.
+-- `section::settle` meets its contract: what a look does to a walk in parts, which is joined again.
 -- Assumes a look that reaches over bytes of the section alone, a tally with sums that do not wrap, and rooms for every field.
-use Rattle.section.proofs.Effects.{see_nothing, see_passed, see_rejected, see_cut, see_accepted}
+use mathlib.Core.Path.{ap, ◌∙◌}
+use lib.ListN.{replicate}
+use Rattle.section.specs.Answers.{handed}
+use Rattle.section.specs.Walk.{settled}
+use Rattle.section.proofs.Fields.{most, settled_full, handed_out}
+use Rattle.section.proofs.Lent.{light_whole}
 use Rattle.section.proofs.settle.Goals as goal
 
-pub returns-in-Nothing : goal.returns-in-Nothing
-returns-in-Nothing c = see_nothing _ _ _ _ c.after-tally.ensures _ c.in-Nothing.is (c.looked.ensures _)
+pub settle_in-settled-requires : goal.settle_in-settled-requires
+settle_in-settled-requires c = (rw c.light.ensures c.requires.0, most _ c.requires.1)
 
-pub returns-in-Passed : goal.returns-in-Passed
-returns-in-Passed c = see_passed _ _ _ _ c.after-tally.ensures _ c.in-Passed.is (c.looked-in-Passed.ensures _)
+pub hand_out-requires : goal.hand_out-requires
+hand_out-requires c = most _ c.requires.1
 
-pub returns-in-Rejected : goal.returns-in-Rejected
-returns-in-Rejected c = see_rejected _ _ _ _ c.after-tally.ensures _ c.in-Rejected.is (c.looked-in-Rejected.ensures _)
-
-pub returns-in-Cutoff : goal.returns-in-Cutoff
-returns-in-Cutoff c = see_cut _ _ _ _ c.after-tally.ensures _ c.in-Cutoff.is (c.looked-in-Cutoff.ensures _)
-
-pub returns-in-Accepted : goal.returns-in-Accepted
-returns-in-Accepted c =
-    see_accepted _ _ _ _ c.after-tally.ensures _ c.in-Accepted.is c.settle.ensures
+pub returns : goal.returns
+returns c =
+    let whole = light_whole c.args.w c.light.ensures c.values-values.ensures in
+    let told = c.settle_in-settled.ensures ∙ ap (λ w. handed (settled c.args.d c.args.l c.args.length w) (replicate 62 0)) whole in
+    handed_out _ c.requires.1 _ (settled_full _ c.requires.1 c.args.l c.args.length c.args.w) _ _ told _ _ c.hand_out.ensures
