@@ -1,9 +1,10 @@
 // Fields read by their records: one thin entry over a lent slice, the Rust's read_field_values in frame/mod.rs, and a by-value door to it.
+// The records are taken apart into the two lists that the reader of crate frame goes by.
 #![tactic(auto)]
 
 ghost use Rattle.records.specs.Owes.{ReadFieldValuesOwes, ReadRecordsOwes};
 
-use frame::fields::{Context, FieldReading};
+use frame::fields::{Context, FieldValues, Unread};
 use reader::Cursor;
 
 // A field of one kind of frame. Its sign is for display: no reading asks for it.
@@ -20,7 +21,7 @@ pub fn read_field_values(
     from: Cursor,
     fields: &[FieldDef],
     context: Context,
-) -> FieldReading
+) -> Result<(FieldValues, Cursor), Unread>
     ensures { ReadFieldValuesOwes s.now from fields.now context result }
 {
     let n = fields.len();
@@ -41,7 +42,7 @@ pub fn read_records(
     n: usize,
     records: [FieldDef; 63],
     context: Context,
-) -> FieldReading
+) -> Result<(FieldValues, Cursor), Unread>
     ensures { ReadRecordsOwes s.now from n records context result }
 {
     read_field_values(s, from, &records[..n.min(63)], context)

@@ -1,7 +1,7 @@
 -- How long the lists are: the values of a frame, and the counts of a walk, out of what owning it tells.
 use Prim.Native.Nat.{ℕ}
 use mathlib.Core.List.{List}
-use mathlib.Core.Option.{none}
+use Rattle.std.specs.Prelude.{None}
 use mathlib.Core.Path.{◌≡◌, ap, ◌∙◌}
 use mir.Val.{Val}
 use denote.Laws.{Is}
@@ -23,7 +23,7 @@ use Rattle.section.specs.contracts.Walk as walk
 module _ (d : Definition) (x : Raw) where
   pub intra_rooms : (last : MainFrame) {m : MainFrame} → frame.IntraOwes d last x m → length m.values ≡ 62
   unfolding intra_frame
-  intra_rooms last e = ap (λ (m : MainFrame). length m.values) (e none) ∙ simp length-sets
+  intra_rooms last e = ap (λ (m : MainFrame). length m.values) (e None) ∙ simp length-sets
 
   pub inter_rooms : (last older : MainFrame) {m : MainFrame} → frame.InterOwes d last older x m → length m.values ≡ 62
   unfolding inter_frame
