@@ -63,6 +63,7 @@ fn spelt(text: &[u8], s: &[u8], from: Cursor, event: Event) -> Result<(Event, Cu
     Ok((event, at))
 }
 
+#[tactic(auto, unfolding(crate::specs::Events::closing, crate::specs::Events::spelled))]
 fn close(s: &[u8], from: Cursor) -> Result<(Event, Cursor), Fault>
     ensures { result ≡ read_at from (closing (rest from s.now)) }
 {
@@ -74,7 +75,7 @@ fn close(s: &[u8], from: Cursor) -> Result<(Event, Cursor), Fault>
     spelt(b"End of log\0", s, from, end)
 }
 
-// The event behind a letter E: its type decides.
+// The event behind a letter E: its type decides, each in an arm of its own, as document 01 lists them (edit fourteen_with_one_number).
 pub fn read(s: &[u8], from: Cursor) -> Result<(Event, Cursor), Fault>
     ensures { ReadOwes s.now from result }
 {
