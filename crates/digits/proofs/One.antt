@@ -2,7 +2,7 @@
 use Prim.Native.Nat.{ℕ}
 use mathlib.Core.List.{List}
 use mathlib.Core.Path.{◌≡◌, sym, ◌∙◌}
-use Rattle.digits.specs.declared.Number.{Number}
+use Rattle.std.specs.Prelude.{Option}
 use Rattle.digits.specs.Owes.{UntilOwes, DecimalOwes}
 
 -- a promise is one equation to a definition
@@ -12,5 +12,5 @@ one_answer p q = p ∙ sym q
 pub until_one : (s : List ℕ) (b : ℕ) {r t : ℕ} → UntilOwes s b r → UntilOwes s b t → r ≡ t
 until_one s b = one_answer
 
-pub decimal_one : (s : List ℕ) {r t : Number} → DecimalOwes s r → DecimalOwes s t → r ≡ t
+pub decimal_one : (s : List ℕ) {r t : Option ℕ} → DecimalOwes s r → DecimalOwes s t → r ≡ t
 decimal_one s = one_answer

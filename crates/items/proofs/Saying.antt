@@ -2,7 +2,7 @@
 use Prim.Native.Nat.{ℕ, zero, suc, ◌+◌, ◌-◌, ◌/◌, ◌%◌, ◌<◌, ◌≤◌}
 use mathlib.Core.Bool.{Bool, true, false, cond, ◌&&◌, ◌||◌, true≢false, and-eq-true_iff, and-false, or-true}
 use mathlib.Core.List.{List, [], ◌∷◌}
-use mathlib.Core.Option.{Option, none, some}
+use Rattle.std.specs.Prelude.{Option, Some, None}
 use mathlib.Core.Path.{◌≡◌, refl, sym, ap, ap₂, ◌∙◌}
 use native.Mathlib.Numerals.{add-one}
 use native.Mathlib.Omega.{arith}
@@ -113,12 +113,12 @@ every_among p (m ∷ ns) n all e =
     either false t h f e = f e
 
 -- the number that an item is, is one of those asked for, and the item is its text
-pub number_among_law : (ns item : List ℕ) {n : ℕ} → number_among ns item ≡ some n → (among ns n ≡ true) × (item ≡ decimal n)
+pub number_among_law : (ns item : List ℕ) {n : ℕ} → number_among ns item ≡ Some n → (among ns n ≡ true) × (item ≡ decimal n)
 unfolding number_among among
 number_among_law [] item e = let z : ◌≡◌ {A = ℕ} 0 1 = cc in absurd (omega arith)
 number_among_law (m ∷ ns) item {n} e = either (same item (decimal m)) refl (number_among_law ns item) e
   where
-    either : {o : Option ℕ} (t : Bool) → same item (decimal m) ≡ t → (o ≡ some n → (among ns n ≡ true) × (item ≡ decimal n)) → cond t (some m) o ≡ some n
+    either : {o : Option ℕ} (t : Bool) → same item (decimal m) ≡ t → (o ≡ Some n → (among ns n ≡ true) × (item ≡ decimal n)) → cond t (Some m) o ≡ Some n
         → ((eqb n m || among ns n) ≡ true) × (item ≡ decimal n)
     either true t f g =
         let z : n ≡ m = cc in
@@ -126,25 +126,25 @@ number_among_law (m ∷ ns) item {n} e = either (same item (decimal m)) refl (nu
     either false t f g = let a = f g in rw a.0 (or-true (eqb n m), a.1)
 
 module _ (item : List ℕ) {n : ℕ} where
-  pub predictor_among : predictor_of item ≡ some n → among predictors n ≡ true
+  pub predictor_among : predictor_of item ≡ Some n → among predictors n ≡ true
   unfolding predictor_of
   predictor_among e = (number_among_law predictors item e).0
 
-  pub predictor_below : predictor_of item ≡ some n → n < 12
+  pub predictor_below : predictor_of item ≡ Some n → n < 12
   predictor_below e = below_12 n (predictor_among e)
 
-  pub encoding_among : encoding_of item ≡ some n → among encodings n ≡ true
+  pub encoding_among : encoding_of item ≡ Some n → among encodings n ≡ true
   unfolding encoding_of
   encoding_among e = (number_among_law encodings item e).0
 
-  pub encoding_below : encoding_of item ≡ some n → n < 10
+  pub encoding_below : encoding_of item ≡ Some n → n < 10
   encoding_below e = ltb-true n 10 (every_among (λ k. ltb k 10) encodings n refl (encoding_among e))
 
 -- ## 255 is the code of an unknown item, and of no other
 
-not_255 : (o : Option ℕ) → ((n : ℕ) → o ≡ some n → n < 255) → eqb (numbered o) 255 ≡ unknown o
-not_255 none h = refl
-not_255 (some n) h = ne_eqb n 255 (omega (arith, h n refl))
+not_255 : (o : Option ℕ) → ((n : ℕ) → o ≡ Some n → n < 255) → eqb (numbered o) 255 ≡ unknown o
+not_255 None h = refl
+not_255 (Some n) h = ne_eqb n 255 (omega (arith, h n refl))
 
 pub predictor_unknown : (item : List ℕ) → eqb (numbered (predictor_of item)) 255 ≡ unknown (predictor_of item)
 predictor_unknown item = not_255 (predictor_of item) (λ n e. omega (arith, predictor_below item e))
@@ -152,9 +152,9 @@ predictor_unknown item = not_255 (predictor_of item) (λ n e. omega (arith, pred
 pub encoding_unknown : (item : List ℕ) → eqb (numbered (encoding_of item)) 255 ≡ unknown (encoding_of item)
 encoding_unknown item = not_255 (encoding_of item) (λ n e. omega (arith, encoding_below item e))
 
-never_some : (o : Option ℕ) → ((n : ℕ) → o ≡ some n → ⊥) → 255 ≡ numbered o
-never_some none h = refl
-never_some (some n) h = absurd (h n refl)
+never_some : (o : Option ℕ) → ((n : ℕ) → o ≡ Some n → ⊥) → 255 ≡ numbered o
+never_some None h = refl
+never_some (Some n) h = absurd (h n refl)
 
 -- ## Numbers by the bytes of the item
 

@@ -1,6 +1,6 @@
 -- What a single item says (document 01, "Definition lists").
-use Rattle.std.specs.Prelude.{ℕ, ◌+◌, ◌/◌, ◌%◌, Bool, true, false, cond, ◌&&◌, ◌||◌, List, [], ◌∷◌, eqb, ltb, leb}
-use Rattle.std.proofs.Math.Option.{Option, none, some}
+use Rattle.std.specs.Prelude.{ℕ, ◌+◌, ◌/◌, ◌%◌, Bool, cond, ◌&&◌, ◌||◌, List, [], ◌∷◌, Option, Some, None, eqb, ltb, leb}
+use Rattle.std.specs.Option.{is_none, unwrap_or}
 use Rattle.plan.specs.Known.{predictors, encodings}
 use Rattle.items.specs.Text.{ascii, same}
 
@@ -10,8 +10,8 @@ decimal n = cond (ltb n 10) ((48 + n) ∷ []) ((48 + n / 10) ∷ (48 + n % 10) �
 
 -- which of these numbers an item is the decimal text of; nothing is trimmed
 unfoldable pub number_among : List ℕ → List ℕ → Option ℕ
-number_among [] item = none
-number_among (n ∷ ns) item = cond (same item (decimal n)) (some n) (number_among ns item)
+number_among [] item = None
+number_among (n ∷ ns) item = cond (same item (decimal n)) (Some n) (number_among ns item)
 
 -- predictors: decimal text `0` to `11`
 unfoldable pub predictor_of : List ℕ → Option ℕ
@@ -23,13 +23,11 @@ encoding_of item = number_among encodings item
 
 -- an item that is none of them
 abbrev pub unknown : Option ℕ → Bool
-unknown none = true
-unknown (some n) = false
+unknown o = is_none o
 
 -- as a definition's byte: the number itself; 255 stands for an unknown item
 abbrev pub numbered : Option ℕ → ℕ
-numbered none = 255
-numbered (some n) = n
+numbered o = unwrap_or o 255
 
 -- bytes 9 to 13 and 32
 unfoldable pub blank : ℕ → Bool

@@ -2,9 +2,9 @@
 // The Rust splits a list lazily and zips the pieces; here a list is read once, into a row, and the rounds run over rows.
 #![tactic(auto)]
 
-ghost use Rattle.std.specs.Prelude.{◌≡◌, ◌+◌, ◌≤◌, length, drop, set};
+ghost use Rattle.std.specs.Prelude.{◌≡◌, true, false, MatchOption};
+ghost use Rattle.items.specs.Items.{given, part};
 ghost use Rattle.items.specs.Owes.{ReadRowOwes, ItemAtOwes, IsAbsentOwes, IsGivenOwes, PartOwes};
-ghost use Rattle.items.specs.Width.{width};
 
 mod said;
 
@@ -12,29 +12,29 @@ use said::code;
 
 // A stretch of a text, from its first byte to behind its last.
 #[derive(Clone, Copy)]
-pub enum Stretch {
-    At(usize, usize),
-    Absent,
+pub struct Stretch {
+    pub start: usize,
+    pub end: usize,
 }
 
-// The lists of a main definition, 0 to 5.
+// The lists of a main definition, 0 to 5; none is one that the log does not have.
 #[derive(Clone, Copy)]
 pub struct MainLists {
-    pub names: Stretch,
-    pub intra_predictors: Stretch,
-    pub inter_predictors: Stretch,
-    pub intra_encodings: Stretch,
-    pub inter_encodings: Stretch,
-    pub signs: Stretch,
+    pub names: Option<Stretch>,
+    pub intra_predictors: Option<Stretch>,
+    pub inter_predictors: Option<Stretch>,
+    pub intra_encodings: Option<Stretch>,
+    pub inter_encodings: Option<Stretch>,
+    pub signs: Option<Stretch>,
 }
 
 // The lists of a slow definition: 0, 1, 3 and 5.
 #[derive(Clone, Copy)]
 pub struct SlowLists {
-    pub names: Stretch,
-    pub predictors: Stretch,
-    pub encodings: Stretch,
-    pub signs: Stretch,
+    pub names: Option<Stretch>,
+    pub predictors: Option<Stretch>,
+    pub encodings: Option<Stretch>,
+    pub signs: Option<Stretch>,
 }
 
 // All lists of a log, as stretches of one text.
@@ -70,104 +70,65 @@ pub struct Row {
     pub codes: [u8; 64],
 }
 
-// Where the item that starts at `from` ends: at the next comma, or at the end of the text.
-fn item_end(text: &[u8], from: usize) -> usize
-    requires { from ≤ length text.now }
-    ensures { result ≡ from + width (drop from text.now) }
-{
-    let mut end = from;
-    while end < text.len() {
-        if text[end] == b',' {
-            return end;
-        }
-        end += 1;
-    }
-    end
-}
-
-// The codes of a row with another in a room; there are 64 rooms, and what lies beyond is dropped.
-fn put(codes: [u8; 64], k: usize, code: u8) -> [u8; 64]
-    ensures { result ≡ set codes k code }
-{
-    let mut more = codes;
-    if k < 64 {
-        more[k] = code;
-        return more;
-    }
-    more
-}
-
 // The row of a list, in one pass over its text.
 pub fn read_row(text: &[u8], of: Of) -> Row
     ensures { ReadRowOwes text.now of result }
 {
-    let mut codes = [code(&text[..0], of); 64];
-    let mut count: usize = 0;
-    let mut from: usize = 0;
-    let mut end = item_end(text, 0);
-    while end < text.len() {
-        let more = put(codes, count, code(&text[from..end], of));
-        codes = more;
+    let mut codes = [code(b"", of); 64];
+    let mut count = 0;
+    for item in text.split(|b| *b == b',') {
+        if count < 64 {
+            codes[count] = code(item, of);
+        }
         count += 1;
-        from = end + 1;
-        end = item_end(text, from);
     }
-    let last = put(codes, count, code(&text[from..end], of));
-    Row {
-        count: count + 1,
-        codes: last,
-    }
+    Row { count, codes }
 }
 
 // Where item `k` stands.
-pub fn item_at(text: &[u8], k: usize) -> Stretch
+pub fn item_at(text: &[u8], k: usize) -> Option<Stretch>
     ensures { ItemAtOwes text.now k result }
 {
-    let mut from: usize = 0;
-    let mut j: usize = 0;
-    while j < k {
-        let end = item_end(text, from);
-        if end == text.len() {
-            return Stretch::Absent;
+    let mut start = 0;
+    for (j, item) in text.split(|b| *b == b',').enumerate() {
+        let end = start + item.len();
+        if j == k {
+            return Some(Stretch { start, end });
         }
-        from = end + 1;
-        j += 1;
+        start = end + 1;
     }
-    Stretch::At(from, item_end(text, from))
+    None
 }
 
 // Whether there is no stretch: one that does not lie in its text is none that is absent.
-pub fn is_absent(s: Stretch) -> bool
+#[tactic(auto, unfolding(crate::specs::Items::absent))]
+pub fn is_absent(s: Option<Stretch>) -> bool
     ensures { IsAbsentOwes s result }
 {
-    match s {
-        Stretch::At(_, _) => false,
-        Stretch::Absent => true,
-    }
+    s.is_none()
+}
+
+// The bytes from a stretch's first to behind its last, if it lies in the text.
+#[tactic(auto, using(crate::proofs::Items::no_bytes, crate::proofs::Items::bytes_of))]
+fn bytes<'a>(text: &'a [u8], s: Option<Stretch>) -> Option<&'a [u8]>
+    ensures { MatchOption result (given text.now s ≡ false) (λ b. (given text.now s ≡ true) × (b.now ≡ part text.now s)) }
+{
+    let s = s?;
+    text.get(s.start..s.end)
 }
 
 // Whether a stretch is there and lies in the text.
-pub fn is_given(text: &[u8], s: Stretch) -> bool
+#[tactic(auto, using(crate::proofs::Items::given_by))]
+pub fn is_given(text: &[u8], s: Option<Stretch>) -> bool
     ensures { IsGivenOwes text.now s result }
 {
-    match s {
-        Stretch::At(start, end) => start <= end && end <= text.len(),
-        Stretch::Absent => false,
-    }
+    bytes(text, s).is_some()
 }
 
 // The bytes of a stretch that is given, and none for any other.
-pub fn part<'a>(text: &'a [u8], s: Stretch) -> &'a [u8]
+#[tactic(auto, using(crate::proofs::Items::part_by))]
+pub fn part<'a>(text: &'a [u8], s: Option<Stretch>) -> &'a [u8]
     ensures { PartOwes text.now s result.now }
 {
-    match s {
-        Stretch::At(start, end) => {
-            if start <= end && end <= text.len() {
-                &text[start..end]
-            } else {
-                &text[..0]
-            }
-        }
-        Stretch::Absent => &text[..0],
-    }
+    bytes(text, s).unwrap_or(&text[..0])
 }

@@ -8,8 +8,8 @@ use native.Mathlib.Nat.{eq-or-lt_of_le}
 use native.Mathlib.Omega.{arith}
 use lib.Dec.{ltb}
 use borrow.Author.Tests.{ltb-true, lt-ltb, le-ltb, eq-eqb, ne_eqb}
-use Rattle.plan.specs.declared.HeaderNumber.{HeaderNumber}
-use Rattle.plan.specs.declared.HeaderNumber.TheVariants.{Absent, Given}
+use Rattle.std.specs.Prelude.{Option, Some, None, Result, Ok, Err}
+use Rattle.std.specs.Result.{OkIff, result_ok}
 use Rattle.plan.specs.Known.{among, predictors}
 use Rattle.plan.specs.Plan.{number_code, number_of}
 
@@ -36,25 +36,30 @@ predictor_below p e = ltb-true p 12 (predictor_is p ∙ e)
 
 -- ## Header numbers
 
-pub number_given : (c : ℕ) → c < 65536 → Given c ≡ number_of c
+pub number_given : (c : ℕ) → c < 65536 → Some c ≡ number_of c
 unfolding number_of
 number_given c h = simp (lt-ltb c 65536 h)
 
-pub number_absent : (c : ℕ) → 65536 ≤ c → Absent ≡ number_of c
+pub number_absent : (c : ℕ) → 65536 ≤ c → None ≡ number_of c
 unfolding number_of
 number_absent c h = simp (le-ltb c 65536 h)
 
 -- it has 16 bits, where there is one
-abbrev pub NumberSized : HeaderNumber → Type 0
-NumberSized Absent = Unit
-NumberSized (Given v) = v < 65536
+abbrev pub NumberSized : Option ℕ → Type 0
+NumberSized None = Unit
+NumberSized (Some v) = v < 65536
 
-pub number_code_small : (x : HeaderNumber) → NumberSized x → number_code x ≤ 65536
+pub number_code_small : (x : Option ℕ) → NumberSized x → number_code x ≤ 65536
 unfolding number_code
-number_code_small Absent h = omega arith
-number_code_small (Given v) h = omega arith
+number_code_small None h = omega arith
+number_code_small (Some v) h = omega arith
 
-pub number_of_code : (x : HeaderNumber) → NumberSized x → number_of (number_code x) ≡ x
+pub number_of_code : (x : Option ℕ) → NumberSized x → number_of (number_code x) ≡ x
 unfolding number_code number_of
-number_of_code Absent h = refl
-number_of_code (Given v) h = sym (number_given v h)
+number_of_code None h = refl
+number_of_code (Some v) h = sym (number_given v h)
+
+-- what `try_from(..).ok()` tells
+pub number_told : {E : Type 0} {r : Option ℕ} (c : ℕ) (t : Result ℕ E) → OkIff t (c < 65536) c → r ≡ result_ok t → r ≡ number_of c
+number_told c (Ok x) h f = f ∙ ap Some h.1 ∙ number_given c h.0
+number_told c (Err d) h f = f ∙ number_absent c (omega arith)

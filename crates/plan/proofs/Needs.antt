@@ -9,8 +9,7 @@ use native.Mathlib.Omega.{arith}
 use lib.ListN.{length, drop, get_or, drop_of_length-le}
 use lib.Seq.{drop-cons}
 use borrow.Author.Tests.{not-true, not-false}
-use Rattle.plan.specs.declared.Need.{Need}
-use Rattle.plan.specs.declared.Need.TheVariants.{Met, Unmet}
+use Rattle.std.specs.Prelude.{Option, Some, None}
 use Rattle.plan.specs.declared.Numbers.{Numbers}
 use Rattle.plan.specs.Known.{among, predictors, encodings}
 use Rattle.plan.specs.Sound.{met, unmet_from, known}
@@ -52,7 +51,7 @@ known_is i (p ∷ ps) [] = refl
 known_is i (p ∷ ps) (e ∷ es) = rw (known_is (suc i) ps es) (and_cond (among predictors p) (among encodings e) _)
 
 module _ (numbers : Numbers) (motor : ℕ) where
-  pub unmet_is : (i : ℕ) (ps qs : List ℕ) → unmet_from numbers motor i ps qs ≡ judged (met numbers motor) (met numbers motor) Met Unmet i ps qs
+  pub unmet_is : (i : ℕ) (ps qs : List ℕ) → unmet_from numbers motor i ps qs ≡ judged (met numbers motor) (met numbers motor) None Some i ps qs
   unfolding unmet_from judged
   unmet_is i [] qs = refl
   unmet_is i (p ∷ ps) [] = refl
@@ -75,21 +74,21 @@ known_all (p ∷ ps) (e ∷ es) each =
     rw (first.0, first.1) (known_all ps es (λ i h k. each (suc i) (omega arith) (omega arith)))
 
 -- where nothing is unmet, every predictor has what it needs
-pub unmet_at_law : (numbers : Numbers) (motor : ℕ) (ps qs : List ℕ) → unmet_from numbers motor 0 ps qs ≡ Met
+pub unmet_at_law : (numbers : Numbers) (motor : ℕ) (ps qs : List ℕ) → unmet_from numbers motor 0 ps qs ≡ None
     → (i : ℕ) → i < length ps → i < length qs → (met numbers motor i (get_or ps i 0) ≡ true) × (met numbers motor i (get_or qs i 0) ≡ true)
 unmet_at_law numbers motor ps qs e i h k =
     rw (zero-add i) at
-    (judged_at (met numbers motor) (met numbers motor) Met Unmet (λ j f. let z : ◌≡◌ {A = ℕ} 0 1 = cc in omega arith) 0 ps qs
+    (judged_at (met numbers motor) (met numbers motor) None Some (λ j f. let z : ◌≡◌ {A = ℕ} 0 1 = cc in omega arith) 0 ps qs
     (sym (unmet_is numbers motor 0 ps qs) ∙ e) i h k)
 
 -- a field that lacks something is one of the fields
-pub unmet_below : (numbers : Numbers) (motor i : ℕ) (ps qs : List ℕ) {j : ℕ} → unmet_from numbers motor i ps qs ≡ Unmet j → j < i + length ps
+pub unmet_below : (numbers : Numbers) (motor i : ℕ) (ps qs : List ℕ) {j : ℕ} → unmet_from numbers motor i ps qs ≡ Some j → j < i + length ps
 unfolding unmet_from
 unmet_below numbers motor i [] qs e = let z : ◌≡◌ {A = ℕ} 0 1 = cc in absurd (omega arith)
 unmet_below numbers motor i (p ∷ ps) [] e = let z : ◌≡◌ {A = ℕ} 0 1 = cc in absurd (omega arith)
 unmet_below numbers motor i (p ∷ ps) (q ∷ qs) {j} e = either (met numbers motor i p && met numbers motor i q) (unmet_below numbers motor (suc i) ps qs) e
   where
-    either : {r : Need} (t : Bool) → (r ≡ Unmet j → j < suc i + length ps) → cond t r (Unmet i) ≡ Unmet j → j < i + suc (length ps)
+    either : {r : Option ℕ} (t : Bool) → (r ≡ Some j → j < suc i + length ps) → cond t r (Some i) ≡ Some j → j < i + suc (length ps)
     either true f g = omega (arith, f g)
     either false f g = let z : i ≡ j = cc in omega arith
 

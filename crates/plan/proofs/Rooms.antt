@@ -1,5 +1,5 @@
 -- How long a definition's arrays are, out of what owning it tells, and that a count over their rooms takes them all.
-use Prim.Native.Nat.{ℕ, zero, suc, ◌<◌, ◌≤◌, min}
+use Prim.Native.Nat.{ℕ, zero, suc, ◌+◌, ◌<◌, ◌≤◌, min}
 use mathlib.Core.List.{List, [], ◌∷◌}
 use mathlib.Core.Path.{◌≡◌, sym, ap, ap₂, ◌∙◌}
 use native.Mathlib.Nat.{zero-min, suc-min-suc}
@@ -11,8 +11,8 @@ use denote.Struct.Field.{u8-field, array_field}
 use lib.ListN.{length, take, length-take}
 use lib.Seq.{take-nil}
 use Rattle.plan.specs.declared.Main.{Main}
-use Rattle.plan.specs.declared.Need.{Need}
-use Rattle.plan.specs.declared.Need.TheVariants.{Unmet}
+use Rattle.std.specs.Prelude.{Option, Some, None}
+use Rattle.std.specs.Option.{MatchOption, IsSomeAnd}
 use Rattle.plan.specs.declared.Numbers.{Numbers}
 use Rattle.plan.specs.declared.Slow.{Slow}
 use Rattle.plan.specs.Plan.{fields}
@@ -67,11 +67,18 @@ pub front_all : (k f n : ℕ) (l : List ℕ) → k ≡ min f n → length l ≡ 
 front_all k f n l e rooms = ap (λ x. take x l) (e ∙ ap (min f) (sym rooms)) ∙ take_rooms f l
 
 -- a field that lacks something stands in one of the rooms
-pub unmet_inside : (numbers : Numbers) (motor k : ℕ) (ps qs : List ℕ) {r : Need} {i : ℕ}
-    → r ≡ unmet_from numbers motor 0 (take k ps) qs → r ≡ Unmet i → k ≤ 62 → i < 62
+pub unmet_inside : (numbers : Numbers) (motor k : ℕ) (ps qs : List ℕ) {r : Option ℕ} {i : ℕ}
+    → r ≡ unmet_from numbers motor 0 (take k ps) qs → r ≡ Some i → k ≤ 62 → i < 62
 unmet_inside numbers motor k ps qs e is h = omega (arith, unmet_below numbers motor 0 (take k ps) qs (sym e ∙ is), length-take k ps)
 
-pub main_unmet_is : (m : Main) (numbers : Numbers) {k f : ℕ} {r : Need} → k ≡ min f 62 → f ≡ fields m
+-- what numbering it from the first item tells
+pub numbered : (o r : Option ℕ) (Q : ℕ → ℕ → Type 0) → MatchOption o (r ≡ None) (λ i. IsSomeAnd r (Q i)) → ((i j : ℕ) → Q i j → j ≡ i + 2)
+    → r ≡ behind_time o
+numbered None r Q h g = h
+numbered (Some i) None Q h g = absurd h
+numbered (Some i) (Some j) Q h g = ap Some (g i j h)
+
+pub main_unmet_is : (m : Main) (numbers : Numbers) {k f : ℕ} {r : Option ℕ} → k ≡ min f 62 → f ≡ fields m
     → r ≡ unmet_from numbers m.motor 0 (take k m.intra_predictors) (take k m.inter_predictors)
     → MainRooms m → behind_time r ≡ unmet_main m numbers
 unfolding unmet_main
@@ -80,7 +87,7 @@ main_unmet_is m numbers {k} h g e rooms =
     ap behind_time
     (e ∙ ap₂ (unmet_from numbers m.motor 0) (front_all k (fields m) 62 _ cut rooms.intra_predictors) (front_all k (fields m) 62 _ cut rooms.inter_predictors))
 
-pub slow_unmet_is : (s : Slow) (numbers : Numbers) {k : ℕ} {r : Need} → k ≡ min s.n 16
+pub slow_unmet_is : (s : Slow) (numbers : Numbers) {k : ℕ} {r : Option ℕ} → k ≡ min s.n 16
     → r ≡ unmet_from numbers s.n 0 (take k s.predictors) (take k s.predictors) → SlowRooms s → r ≡ unmet_slow s numbers
 unfolding unmet_slow
 slow_unmet_is s numbers {k} h e rooms =

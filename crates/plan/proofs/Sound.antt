@@ -9,12 +9,12 @@ use borrow.Author.Tests.{le-leb, lt-leb, leb-true, eqb-true, eq-eqb, ne_eqb, not
 use Rattle.plan.specs.declared.Definition.{Definition}
 use Rattle.plan.specs.declared.FrameInterval.{FrameInterval}
 use Rattle.plan.specs.declared.Main.{Main}
-use Rattle.plan.specs.declared.Need.{Need}
-use Rattle.plan.specs.declared.Need.TheVariants.{Met, Unmet}
+use Rattle.std.specs.Prelude.{Option, Some, None}
+use Rattle.std.specs.Option.{is_some, is_none}
 use Rattle.plan.specs.declared.Numbers.{Numbers}
 use Rattle.plan.specs.declared.Slow.{Slow}
 use Rattle.plan.specs.Plan.{fields, nothing}
-use Rattle.plan.specs.Sound.{known, unmet_from, unmet_main, unmet_slow, is_met, sound_fields, sound_main, sound_slow, is_interval, sound}
+use Rattle.plan.specs.Sound.{known, unmet_from, unmet_main, unmet_slow, sound_fields, sound_main, sound_slow, is_interval, sound}
 
 -- whether the codes of the first k fields are known
 abbrev pub intra_known : Main → ℕ → Bool
@@ -26,9 +26,14 @@ inter_known m k = known (take k m.inter_predictors) (take k m.inter_encodings)
 abbrev pub slow_known : Slow → ℕ → Bool
 slow_known s k = known (take k s.predictors) (take k s.encodings)
 
-all_met : (need : Need) → is_met need ≡ true → need ≡ Met
-all_met Met e = refl
-all_met (Unmet i) e = absurd (false≢true e)
+all_met : (need : Option ℕ) → is_none need ≡ true → need ≡ None
+all_met None e = refl
+all_met (Some i) e = absurd (false≢true e)
+
+-- what `is_none` of the code tells
+told : (d : Bool) (r : Option ℕ) → is_some r ≡ not d → d ≡ is_none r
+told true r e = sym (ap not e)
+told false r e = sym (ap not e)
 
 all_three : (a b c : Bool) → (a && (b && c)) ≡ true → (a ≡ true) × (b ≡ true) × (c ≡ true)
 all_three true true c e = (refl, refl, e)
@@ -38,7 +43,7 @@ all_three false b c e = absurd (false≢true e)
 -- ## Fields of one kind
 
 module _ (rooms : ℕ) (numbers : Numbers) (motor n : ℕ) (ps es : List ℕ) where
-  pub fields_sound_is : {a b c : Bool} → leb n rooms ≡ a → known ps es ≡ b → is_met (unmet_from numbers motor 0 ps ps) ≡ c
+  pub fields_sound_is : {a b c : Bool} → leb n rooms ≡ a → known ps es ≡ b → is_none (unmet_from numbers motor 0 ps ps) ≡ c
       → sound_fields rooms numbers motor n ps es ≡ (a && (b && c))
   fields_sound_is p q r = rw (p, q, r)
 
@@ -50,13 +55,13 @@ module _ (rooms : ℕ) (numbers : Numbers) (motor n : ℕ) (ps es : List ℕ) wh
     pub fields_codes_fail : not b ≡ true → false ≡ sound_fields rooms numbers motor n ps es
     fields_codes_fail p = sym (fields_sound_is (le-leb n rooms few) (sym codes ∙ not-true b p) refl)
 
-    pub fields_needs : {d : Bool} {r : Need} → d ≡ is_met r → r ≡ unmet_from numbers motor 0 ps ps → not b ≡ false
+    pub fields_needs : {d : Bool} {r : Option ℕ} → is_some r ≡ not d → r ≡ unmet_from numbers motor 0 ps ps → not b ≡ false
         → d ≡ sound_fields rooms numbers motor n ps es
-    fields_needs f g p = f ∙ sym (fields_sound_is (le-leb n rooms few) (sym codes ∙ not-false b p) (sym (ap is_met g)))
+    fields_needs f g p = told _ _ f ∙ sym (fields_sound_is (le-leb n rooms few) (sym codes ∙ not-false b p) (sym (ap is_none g)))
 
   -- its parts
   module _ (h : sound_fields rooms numbers motor n ps es ≡ true) where
-    fields_parts : (leb n rooms ≡ true) × (known ps es ≡ true) × (is_met (unmet_from numbers motor 0 ps ps) ≡ true)
+    fields_parts : (leb n rooms ≡ true) × (known ps es ≡ true) × (is_none (unmet_from numbers motor 0 ps ps) ≡ true)
     fields_parts = all_three _ _ _ h
 
     pub fields_few : n ≤ rooms
@@ -65,21 +70,21 @@ module _ (rooms : ℕ) (numbers : Numbers) (motor n : ℕ) (ps es : List ℕ) wh
     pub fields_known : known ps es ≡ true
     fields_known = fields_parts.1
 
-    pub fields_met : unmet_from numbers motor 0 ps ps ≡ Met
+    pub fields_met : unmet_from numbers motor 0 ps ps ≡ None
     fields_met = all_met (unmet_from numbers motor 0 ps ps) fields_parts.2
 
 -- ## Main frames
 
 module _ (m : Main) (numbers : Numbers) where
   -- the answers of the four tests, where the code has the count in k
-  main_sound_is : {k : ℕ} {a b c d : Bool} → k ≡ fields m → leb k 62 ≡ a → intra_known m k ≡ b → inter_known m k ≡ c → is_met (unmet_main m numbers) ≡ d
+  main_sound_is : {k : ℕ} {a b c d : Bool} → k ≡ fields m → leb k 62 ≡ a → intra_known m k ≡ b → inter_known m k ≡ c → is_none (unmet_main m numbers) ≡ d
       → sound_main m numbers ≡ (a && (b && (c && d)))
   unfolding sound_main
   main_sound_is e p q r s = rw (← e, p, q, r, s)
 
-  pub main_sound_made : fields m ≤ 62 → intra_known m (fields m) ≡ true → inter_known m (fields m) ≡ true → unmet_main m numbers ≡ Met
+  pub main_sound_made : fields m ≤ 62 → intra_known m (fields m) ≡ true → inter_known m (fields m) ≡ true → unmet_main m numbers ≡ None
       → sound_main m numbers ≡ true
-  main_sound_made h p q r = main_sound_is refl (le-leb (fields m) 62 h) p q (ap is_met r)
+  main_sound_made h p q r = main_sound_is refl (le-leb (fields m) 62 h) p q (ap is_none r)
 
   -- the ways through the code
   module _ {k : ℕ} (count : k ≡ fields m) where
@@ -94,16 +99,16 @@ module _ (m : Main) (numbers : Numbers) where
         pub main_inter_fails : not c ≡ true → false ≡ sound_main m numbers
         main_inter_fails q = sym (main_sound_is count (le-leb k 62 few) (sym intra ∙ not-false b p) (sym inter ∙ not-true c q) refl)
 
-        pub main_needs : {d : Bool} {r : Need} → d ≡ is_met r → r ≡ unmet_main m numbers → not c ≡ false → d ≡ sound_main m numbers
-        main_needs f g q = f ∙ sym (main_sound_is count (le-leb k 62 few) (sym intra ∙ not-false b p) (sym inter ∙ not-false c q) (sym (ap is_met g)))
+        pub main_needs : {d : Bool} {r : Option ℕ} → is_some r ≡ not d → r ≡ unmet_main m numbers → not c ≡ false → d ≡ sound_main m numbers
+        main_needs f g q = told _ _ f ∙ sym (main_sound_is count (le-leb k 62 few) (sym intra ∙ not-false b p) (sym inter ∙ not-false c q) (sym (ap is_none g)))
 
   -- its parts
   module _ (h : sound_main m numbers ≡ true) where
-    main_parts : (leb (fields m) 62 ≡ true) × (intra_known m (fields m) ≡ true) × ((inter_known m (fields m) && is_met (unmet_main m numbers)) ≡ true)
+    main_parts : (leb (fields m) 62 ≡ true) × (intra_known m (fields m) ≡ true) × ((inter_known m (fields m) && is_none (unmet_main m numbers)) ≡ true)
     unfolding sound_main
     main_parts = all_three _ _ _ h
 
-    main_last : (inter_known m (fields m) ≡ true) × (is_met (unmet_main m numbers) ≡ true)
+    main_last : (inter_known m (fields m) ≡ true) × (is_none (unmet_main m numbers) ≡ true)
     main_last = (and-eq-true_iff _ _).0 main_parts.2
 
     pub main_fields : fields m ≤ 62
@@ -115,15 +120,15 @@ module _ (m : Main) (numbers : Numbers) where
     pub main_inter : inter_known m (fields m) ≡ true
     main_inter = main_last.0
 
-    pub main_met : unmet_main m numbers ≡ Met
+    pub main_met : unmet_main m numbers ≡ None
     main_met = all_met (unmet_main m numbers) main_last.1
 
 -- ## Slow frames
 
 module _ (s : Slow) (numbers : Numbers) where
-  pub slow_sound_made : s.n ≤ 16 → slow_known s s.n ≡ true → unmet_slow s numbers ≡ Met → sound_slow s numbers ≡ true
+  pub slow_sound_made : s.n ≤ 16 → slow_known s s.n ≡ true → unmet_slow s numbers ≡ None → sound_slow s numbers ≡ true
   unfolding sound_slow unmet_slow
-  slow_sound_made h p q = fields_sound_is 16 numbers s.n s.n _ _ (le-leb s.n 16 h) p (ap is_met q)
+  slow_sound_made h p q = fields_sound_is 16 numbers s.n s.n _ _ (le-leb s.n 16 h) p (ap is_none q)
 
   -- the ways through the code
   pub slow_crowded : 16 < s.n → false ≡ sound_slow s numbers
@@ -135,7 +140,7 @@ module _ (s : Slow) (numbers : Numbers) where
     unfolding sound_slow
     slow_codes_fail p = fields_codes_fail 16 numbers s.n s.n _ _ codes few p
 
-    pub slow_needs : {d : Bool} {r : Need} → d ≡ is_met r → r ≡ unmet_slow s numbers → not b ≡ false → d ≡ sound_slow s numbers
+    pub slow_needs : {d : Bool} {r : Option ℕ} → is_some r ≡ not d → r ≡ unmet_slow s numbers → not b ≡ false → d ≡ sound_slow s numbers
     unfolding sound_slow unmet_slow
     slow_needs f g p = fields_needs 16 numbers s.n s.n _ _ codes few f g p
 
@@ -149,7 +154,7 @@ module _ (s : Slow) (numbers : Numbers) where
     unfolding sound_slow
     slow_known_law = fields_known 16 numbers s.n s.n _ _ h
 
-    pub slow_met : unmet_slow s numbers ≡ Met
+    pub slow_met : unmet_slow s numbers ≡ None
     unfolding sound_slow unmet_slow
     slow_met = fields_met 16 numbers s.n s.n _ _ h
 

@@ -1,20 +1,18 @@
 -- What each public function of this crate owes.
-use Rattle.std.specs.Prelude.{ℕ, Bool, List, ◌≡◌, take}
+use Rattle.std.specs.Prelude.{ℕ, Bool, Option, List, ◌≡◌, take}
 use Rattle.plan.specs.declared.Definition.{Definition}
 use Rattle.plan.specs.declared.FrameInterval.{FrameInterval}
-use Rattle.plan.specs.declared.HeaderNumber.{HeaderNumber}
 use Rattle.plan.specs.declared.Main.{Main}
-use Rattle.plan.specs.declared.Need.{Need}
 use Rattle.plan.specs.declared.Numbers.{Numbers}
 use Rattle.plan.specs.declared.Settings.{Settings}
 use Rattle.plan.specs.declared.Slow.{Slow}
 use Rattle.plan.specs.Plan.{number_code, number_of, fields, plain, nothing}
 use Rattle.plan.specs.Sound.{unmet_main, unmet_slow, sound_fields, is_interval, sound}
 
-abbrev pub CodeOwes : HeaderNumber → ℕ → Type 0
+abbrev pub CodeOwes : Option ℕ → ℕ → Type 0
 CodeOwes x r = r ≡ number_code x
 
-abbrev pub OfOwes : ℕ → HeaderNumber → Type 0
+abbrev pub OfOwes : ℕ → Option ℕ → Type 0
 OfOwes c r = r ≡ number_of c
 
 abbrev pub FieldsOwes : Main → ℕ → Type 0
@@ -29,10 +27,10 @@ PlainOwes r = r ≡ plain
 abbrev pub NothingOwes : Definition → Type 0
 NothingOwes r = r ≡ nothing
 
-abbrev pub UnmetMainOwes : Main → Numbers → Need → Type 0
+abbrev pub UnmetMainOwes : Main → Numbers → Option ℕ → Type 0
 UnmetMainOwes m numbers r = r ≡ unmet_main m numbers
 
-abbrev pub UnmetSlowOwes : Slow → Numbers → Need → Type 0
+abbrev pub UnmetSlowOwes : Slow → Numbers → Option ℕ → Type 0
 UnmetSlowOwes s numbers r = r ≡ unmet_slow s numbers
 
 -- the first n of 62 predictors and encodings

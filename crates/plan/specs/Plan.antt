@@ -1,23 +1,20 @@
 -- The views of a definition that later meanings read: what its rooms hold, cut at the counts, and nothing of what lies behind.
-use Rattle.std.specs.Prelude.{ℕ, ◌-◌, min, Bool, cond, List, map, eqb, ltb, take, replicate}
-use Rattle.std.proofs.Math.Option.{Option, none, some}
+use Rattle.std.specs.Prelude.{ℕ, ◌-◌, min, Bool, cond, Option, Some, None, List, map, eqb, ltb, take, replicate}
 use Rattle.plan.specs.declared.Definition.{Definition}
 use Rattle.plan.specs.declared.FrameInterval.{FrameInterval}
-use Rattle.plan.specs.declared.HeaderNumber.{HeaderNumber}
-use Rattle.plan.specs.declared.HeaderNumber.TheVariants.{Absent, Given}
 use Rattle.plan.specs.declared.Main.{Main}
 use Rattle.plan.specs.declared.Numbers.{Numbers}
 use Rattle.plan.specs.declared.Settings.{Settings}
 use Rattle.plan.specs.declared.Slow.{Slow}
 
 -- a header number of 16 bits as a number; 65536 where there is none
-unfoldable pub number_code : HeaderNumber → ℕ
-number_code Absent = 65536
-number_code (Given v) = v
+unfoldable pub number_code : Option ℕ → ℕ
+number_code None = 65536
+number_code (Some v) = v
 
 -- whatever needs more than 16 bits is none
-unfoldable pub number_of : ℕ → HeaderNumber
-number_of c = cond (ltb c 65536) (Given c) Absent
+unfoldable pub number_of : ℕ → Option ℕ
+number_of c = cond (ltb c 65536) (Some c) None
 
 -- the fields of a main frame are the items behind `loopIteration` and `time`
 abbrev pub fields : Main → ℕ
@@ -34,7 +31,7 @@ shape d =
     record {
       intra = take (fields d.main) d.main.intra_encodings;
       inter = take (fields d.main) d.main.inter_encodings;
-      slow = cond (eqb d.slow.n 0) none (some (take d.slow.n d.slow.encodings));
+      slow = cond (eqb d.slow.n 0) None (Some (take d.slow.n d.slow.encodings));
     }
 
 -- what values are: the predictors of the fields, the place of `motor[0]` among them or their number where it is none of them, the header numbers,
@@ -95,7 +92,7 @@ abbrev pub no_slow : Slow
 no_slow = record { n = 0; predictors = replicate 16 0; encodings = replicate 16 0; signs = replicate 16 0 }
 
 abbrev pub no_numbers : Numbers
-no_numbers = record { min_throttle = Absent; vbat_reference = Absent; min_motor = Absent }
+no_numbers = record { min_throttle = None; vbat_reference = None; min_motor = None }
 
 -- every loop iteration is logged: the intra interval 1, and 1/1
 abbrev pub plain : Settings

@@ -2,11 +2,18 @@
 // The Rust keeps a vector of field records; here each property is an array of 62 rooms (slow: 16), 0 behind the last field.
 #![tactic(auto)]
 
-ghost use Rattle.std.specs.Prelude.{◌≡◌, min, length};
+ghost use Rattle.std.specs.Prelude.{◌≡◌, length};
 ghost use Rattle.plan.specs.Known.{among, predictors, encodings};
 ghost use Rattle.plan.specs.Owes.{CodeOwes, OfOwes, FieldsOwes, IsIntervalOwes, PlainOwes, NothingOwes};
 ghost use Rattle.plan.specs.Owes.{UnmetMainOwes, UnmetSlowOwes, AreSoundOwes, IsSoundOwes};
-ghost use Rattle.plan.specs.Sound.{is_given, met, unmet_from, is_met, known, sound_main, sound_slow};
+ghost use Rattle.plan.specs.Sound.{met, unmet_from, known, sound_main, sound_slow};
+
+// The two definitions of a log: which of them a frame, a field or a name belongs to.
+#[derive(Clone, Copy, PartialEq, Eq)]
+pub enum Sort {
+    Main,
+    Slow,
+}
 
 // The main frames: the items of each list (0 where refused, 2 with no fields), and the fields behind loopIteration and time.
 #[derive(Clone, Copy)]
@@ -31,19 +38,12 @@ pub struct Slow {
     pub signs: [u8; 16],
 }
 
-// A number that stands in a log's header, or does not.
-#[derive(Clone, Copy)]
-pub enum HeaderNumber {
-    Absent,
-    Given(u16),
-}
-
-// The header numbers that predictors 4, 9 and 11 use.
+// The header numbers that predictors 4, 9 and 11 use: each stands in a log's header, or does not.
 #[derive(Clone, Copy)]
 pub struct Numbers {
-    pub min_throttle: HeaderNumber,
-    pub vbat_reference: HeaderNumber,
-    pub min_motor: HeaderNumber,
+    pub min_throttle: Option<u16>,
+    pub vbat_reference: Option<u16>,
+    pub min_motor: Option<u16>,
 }
 
 // How often loop iterations are logged: every so many an intra frame, and of so many so many at all.
@@ -68,60 +68,34 @@ pub struct Definition {
     pub settings: Settings,
 }
 
-// Whether all predictors have what they need, or the first field with one that lacks something.
-#[derive(Clone, Copy)]
-pub enum Need {
-    Met,
-    Unmet(usize),
-}
-
-fn is_given(number: HeaderNumber) -> bool
-    ensures { result ≡ is_given number }
-{
-    match number {
-        HeaderNumber::Absent => false,
-        HeaderNumber::Given(_) => true,
-    }
-}
-
 // Whether predictor `p` of field `i` has what it needs.
+#[tactic(auto, unfolding(crate::specs::Sound::met))]
 fn is_met(numbers: Numbers, motor: usize, i: usize, p: u8) -> bool
     ensures { result ≡ met numbers motor i p }
 {
-    let throttle = numbers.min_throttle;
-    let battery = numbers.vbat_reference;
-    let least = numbers.min_motor;
     match p {
-        4 => is_given(throttle),
-        9 => is_given(battery),
-        11 => is_given(least),
+        4 => numbers.min_throttle.is_some(),
+        9 => numbers.vbat_reference.is_some(),
+        11 => numbers.min_motor.is_some(),
         5 => motor < i,
         _ => true,
     }
 }
 
-// The needs of two lists of predictors, field by field.
-fn unmet(numbers: Numbers, motor: usize, intra: &[u8], inter: &[u8]) -> Need
+// The first field of two lists of predictors with one that lacks something.
+fn unmet(numbers: Numbers, motor: usize, intra: &[u8], inter: &[u8]) -> Option<usize>
     requires { length intra.now ≡ length inter.now }
     ensures { result ≡ unmet_from numbers motor 0 intra.now inter.now }
 {
-    let mut i = 0;
-    while i < intra.len() {
-        if !is_met(numbers, motor, i, intra[i]) {
-            return Need::Unmet(i);
+    for (i, p) in intra.iter().enumerate() {
+        if !is_met(numbers, motor, i, *p) {
+            return Some(i);
         }
         if !is_met(numbers, motor, i, inter[i]) {
-            return Need::Unmet(i);
+            return Some(i);
         }
-        i += 1;
     }
-    Need::Met
-}
-
-fn lesser(a: usize, b: usize) -> usize
-    ensures { result ≡ min a b }
-{
-    if a < b { a } else { b }
+    None
 }
 
 fn is_predictor(code: u8) -> bool
@@ -130,19 +104,11 @@ fn is_predictor(code: u8) -> bool
     code < 12
 }
 
+#[tactic(auto, unfolding(crate::specs::Known::among))]
 fn is_encoding(code: u8) -> bool
     ensures { result ≡ among encodings code }
 {
-    match code {
-        0 => true,
-        1 => true,
-        3 => true,
-        6 => true,
-        7 => true,
-        8 => true,
-        9 => true,
-        _ => false,
-    }
+    matches!(code, 0 | 1 | 3 | 6..=9)
 }
 
 // Whether every field has a predictor and an encoding that there is.
@@ -150,37 +116,26 @@ fn are_known(predictors: &[u8], encodings: &[u8]) -> bool
     requires { length predictors.now ≡ length encodings.now }
     ensures { result ≡ known predictors.now encodings.now }
 {
-    let mut i = 0;
-    while i < predictors.len() {
-        if !is_predictor(predictors[i]) {
+    for (i, p) in predictors.iter().enumerate() {
+        if !is_predictor(*p) {
             return false;
         }
         if !is_encoding(encodings[i]) {
             return false;
         }
-        i += 1;
     }
     true
-}
-
-fn is_all_met(need: Need) -> bool
-    ensures { result ≡ is_met need }
-{
-    match need {
-        Need::Met => true,
-        Need::Unmet(_) => false,
-    }
 }
 
 // Whether the walk can go by n fields of one kind: what checks 3 and 8 ask, and no more fields than rooms.
 pub fn are_sound(
     n: usize,
-    predictors: [u8; 62],
-    encodings: [u8; 62],
+    predictors: &[u8; 62],
+    encodings: &[u8; 62],
     motor: usize,
     numbers: Numbers,
 ) -> bool
-    ensures { AreSoundOwes n predictors encodings motor numbers result }
+    ensures { AreSoundOwes n predictors.now encodings.now motor numbers result }
 {
     if 62 < n {
         return false;
@@ -188,31 +143,25 @@ pub fn are_sound(
     if !are_known(&predictors[..n], &encodings[..n]) {
         return false;
     }
-    let same = predictors;
-    is_all_met(unmet(numbers, motor, &predictors[..n], &same[..n]))
+    unmet(numbers, motor, &predictors[..n], &predictors[..n]).is_none()
 }
 
-impl HeaderNumber {
-    // As a number: 65536 stands for an absent one.
-    pub fn code(self) -> u32
-        ensures { CodeOwes self result }
-    {
-        match self {
-            HeaderNumber::Absent => 65536,
-            HeaderNumber::Given(v) => v as u32,
-        }
+// A header number as a number: 65536 stands for an absent one.
+#[tactic(auto, unfolding(crate::specs::Plan::number_code))]
+pub fn number_code(number: Option<u16>) -> u32
+    ensures { CodeOwes number result }
+{
+    match number {
+        Some(v) => u32::from(v),
+        None => 65536,
     }
+}
 
-    // And back: whatever needs more than 16 bits is absent.
-    pub fn of(code: u64) -> HeaderNumber
-        ensures { OfOwes code result }
-    {
-        if code < 65536 {
-            HeaderNumber::Given(code as u16)
-        } else {
-            HeaderNumber::Absent
-        }
-    }
+// And back: whatever needs more than 16 bits is absent.
+pub fn number_of(code: u64) -> Option<u16>
+    ensures { OfOwes code result }
+{
+    u16::try_from(code).ok()
 }
 
 impl Main {
@@ -224,17 +173,14 @@ impl Main {
     }
 
     // The field is numbered from the list's first item, two before the first field.
-    pub fn unmet(self, numbers: Numbers) -> Need
+    pub fn unmet(self, numbers: Numbers) -> Option<usize>
         ensures { UnmetMainOwes self numbers result }
     {
-        let k = lesser(self.fields(), 62);
+        let k = self.fields().min(62);
         let intra = self.intra_predictors;
         let inter = self.inter_predictors;
         let need = unmet(numbers, self.motor, &intra[..k], &inter[..k]);
-        match need {
-            Need::Met => Need::Met,
-            Need::Unmet(i) => Need::Unmet(i + 2),
-        }
+        need.map(|i| i + 2)
     }
 
     fn is_sound(self, numbers: Numbers) -> bool
@@ -254,15 +200,15 @@ impl Main {
         if !are_known(&c[..k], &d[..k]) {
             return false;
         }
-        is_all_met(self.unmet(numbers))
+        self.unmet(numbers).is_none()
     }
 }
 
 impl Slow {
-    pub fn unmet(self, numbers: Numbers) -> Need
+    pub fn unmet(self, numbers: Numbers) -> Option<usize>
         ensures { UnmetSlowOwes self numbers result }
     {
-        let k = lesser(self.n, 16);
+        let k = self.n.min(16);
         let intra = self.predictors;
         let inter = self.predictors;
         unmet(numbers, self.n, &intra[..k], &inter[..k])
@@ -280,7 +226,7 @@ impl Slow {
         if !are_known(&a[..k], &b[..k]) {
             return false;
         }
-        is_all_met(self.unmet(numbers))
+        self.unmet(numbers).is_none()
     }
 }
 
@@ -335,9 +281,9 @@ impl Definition {
             signs: [0u8; 16],
         };
         let numbers = Numbers {
-            min_throttle: HeaderNumber::Absent,
-            vbat_reference: HeaderNumber::Absent,
-            min_motor: HeaderNumber::Absent,
+            min_throttle: None,
+            vbat_reference: None,
+            min_motor: None,
         };
         Definition {
             main,

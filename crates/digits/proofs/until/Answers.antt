@@ -1,15 +1,18 @@
--- `digits::until` meets its contract. The invariant: no `b` stands before `i`. Assumes nothing.
-use Rattle.digits.proofs.Parting.{come_first, come_on, come_there, come_end}
+-- `digits::until` meets its contract: the place that the library finds, or the length. Assumes nothing.
+use borrow.Author.Rules.{rules}
+use mathlib.Core.Path.{◌∙◌}
+use lib.Dec.{eqb}
+use Rattle.std.proofs.Common.{tests}
+use Rattle.std.proofs.lemmas.Iterator.{YieldsList-from_slice}
+use Rattle.std.proofs.lemmas.Iterator.Search.{position_from_yields_List}
+use Rattle.digits.specs.Digits.{before}
+use Rattle.digits.proofs.Parting.{place_or_end}
 use Rattle.digits.proofs.until.Goals as goal
 
-pub loop-i-init : goal.loop-i-init
-loop-i-init c = come_first _ _
-
-pub returns-then-s-i : goal.returns-then-s-i
-returns-then-s-i c = search come_there
-
-pub loop-i-preserved : goal.loop-i-preserved
-loop-i-preserved c = search come_on
-
 pub returns : goal.returns
-returns c = search come_end
+unfolding before
+returns c =
+    let s = c.args.s.now in
+    let found = position_from_yields_List (λ x. eqb x c.args.b) _ _ c.position.result c.position.ensures.ran (YieldsList-from_slice s cc)
+    (λ x b q k. search (rules, tests)) in
+    c.unwrap_or.ensures ∙ place_or_end _ s found

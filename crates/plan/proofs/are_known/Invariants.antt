@@ -1,7 +1,5 @@
 -- `plan::are_known` meets its contract. The invariant: the fields before `i` are known. Assumes nothing.
-use Prim.Native.Nat.{◌-◌}
 use mathlib.Core.Bool.{true, false}
-use lib.ListN.{length}
 use Rattle.plan.specs.Known as codes
 use Rattle.plan.specs.Sound.{known}
 use Rattle.plan.proofs.Needs.{Passed}
@@ -11,6 +9,3 @@ abbrev pub invariant-loop-i : goal.invariant-loop-i
 invariant-loop-i l =
     Passed (known l.predictors l.encodings) (λ _. codes.among codes.predictors) (λ _. codes.among codes.encodings)
     true (λ _. false) l.predictors l.encodings l.i
-
-abbrev pub decreases-loop-i : goal.decreases-loop-i
-decreases-loop-i l = length l.predictors - l.i
