@@ -2,7 +2,7 @@
 use Prim.Native.Nat.{ℕ, zero, suc, ◌+◌, ◌-◌, ◌<◌, ◌≤◌}
 use mathlib.Core.Bool.{Bool, true, false}
 use mathlib.Core.List.{List, [], ◌∷◌}
-use mathlib.Core.Option.{Option, none, some}
+use Rattle.std.specs.Prelude.{Option, None, Some, Err}
 use mathlib.Core.Path.{◌≡◌, refl, sym, ap, ◌∙◌, subst}
 use native.Mathlib.Omega.{arith}
 use lib.Dec.{ltb}
@@ -14,37 +14,32 @@ use Rattle.items.specs.declared.SlowLists.{SlowLists}
 use Rattle.items.specs.Said.{unknown}
 use Rattle.plan.specs.declared.Settings.{Settings}
 use Rattle.plan.specs.declared.Numbers.{Numbers}
-use Rattle.plan.specs.declared.Need.{Need}
-use Rattle.plan.specs.declared.Need.TheVariants as need
 use Rattle.definition.specs.declared.Defined.{Defined}
 use Rattle.definition.specs.declared.Paper.{Paper}
 use Rattle.definition.specs.declared.Refusal.{Refusal}
-use Rattle.definition.specs.declared.Verdict.TheVariants.{Refused}
-use Rattle.definition.specs.Checks.{paper_of, Finding, check, ◌or_else◌, unknown_in, unknown_from}
+use Rattle.definition.specs.Checks.{paper_of, Finding, found, check, ◌or_else◌, unknown_in, unknown_from}
 use Rattle.definition.specs.Defined.{Answer, told, main_absent, slow_absent, main_finding, no_slow_lists, slow_finding, in_interval, judged, defined}
 use Rattle.definition.specs.MainLists.{MainItems, rounds, in_rounds, lengths, in_lengths, in_needs, judged_main}
 use Rattle.definition.specs.SlowLists.{SlowItems, slow_rounds, judged_four, judged_slow}
-use Rattle.definition.proofs.Chain.{refuses}
 
 abbrev Fits : Finding → Type 0
-Fits none = Unit
-Fits (some p) = (p.number < 256) × (p.round < 255)
+Fits None = Unit
+Fits (Some p) = (p.number < 256) × (p.round < 255)
 
 -- ## One check after another
 
 fits_else : (a b : Finding) → Fits a → Fits b → Fits (a or_else b)
 unfolding ◌or_else◌
-fits_else none b f g = g
-fits_else (some p) b f g = f
+fits_else None b f g = g
+fits_else (Some p) b f g = f
 
 fits_check : (t : Bool) (number place : ℕ) → number < 256 → Fits (check t number place)
-unfolding check
 fits_check true number place h = (h, omega arith)
 fits_check false number place h = tt
 
 -- what stands behind a check is looked at where that does not apply
 fits_behind : (t : Bool) (number place : ℕ) (rest : Finding) → number < 256 → (t ≡ false → Fits rest) → Fits (check t number place or_else rest)
-unfolding check ◌or_else◌
+unfolding ◌or_else◌
 fits_behind true number place rest h f = (h, omega arith)
 fits_behind false number place rest h f = f refl
 
@@ -75,10 +70,10 @@ fits_lengths : (l : MainItems) (n : ℕ) → Fits (in_lengths l n)
 unfolding in_lengths lengths
 fits_lengths l n = fits_else _ _ (fits_check _ 6 n (omega arith)) (fits_check _ 7 n (omega arith))
 
-fits_needs : (x : Need) → Fits (in_needs x)
+fits_needs : (x : Option ℕ) → Fits (in_needs x)
 unfolding in_needs
-fits_needs need.Met = tt
-fits_needs (need.Unmet field) = (omega arith, omega arith)
+fits_needs None = tt
+fits_needs (Some field) = (omega arith, omega arith)
 
 fits_main : (l : MainItems) (numbers : Numbers) → Fits (judged_main l numbers)
 unfolding judged_main
@@ -123,8 +118,8 @@ module _ (text : List ℕ) where
 
   -- of what a call handed out
   pub refusal_fits : (l : Lists) (numbers : Numbers) (settings : Settings) (d : Defined) {why : Refusal} {p : Paper} →
-      told d ≡ defined text l numbers settings → d.verdict ≡ Refused why → p ≡ paper_of why → (p.number < 256) × (p.round < 255)
+      told d ≡ defined text l numbers settings → d.verdict ≡ Err why → p ≡ paper_of why → (p.number < 256) × (p.round < 255)
   unfolding defined
   refusal_fits l numbers settings d is v says =
-      let found = sym (refuses _ v) ∙ ap (λ (x : Answer). x.finding) is in
-      rw says (subst Fits (sym found) (fits_judged l numbers settings))
+      let says-so = sym (ap found v) ∙ ap (λ (x : Answer). x.finding) is in
+      rw says (subst Fits (sym says-so) (fits_judged l numbers settings))

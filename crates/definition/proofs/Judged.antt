@@ -1,57 +1,45 @@
 -- The verdict on lists as the code comes by it: too many rounds, or the checks behind that one; and the definition that goes with it.
 use Prim.Native.Nat.{ℕ, zero, suc, ◌-◌, ◌<◌, ◌≤◌, min}
 use mathlib.Core.Bool.{Bool, true, false, cond, not}
-use mathlib.Core.List.{List}
-use mathlib.Core.Option.{none, some}
+use Rattle.std.specs.Prelude.{None, Some}
 use mathlib.Core.Path.{◌≡◌, refl, sym, ap, ap₂, ◌∙◌}
 use native.Mathlib.Nat.{sub-zero}
 use native.Mathlib.Omega.{arith}
 use lib.ListN.{length}
 use borrow.Author.Tests.{lt-ltb, le-ltb}
-use Rattle.items.specs.declared.Lists.{Lists}
-use Rattle.items.specs.declared.SlowLists.{SlowLists}
 use Rattle.items.specs.Items.{at}
 use Rattle.items.specs.Said.{predictor_of, encoding_of, unknown}
-use Rattle.plan.specs.declared.Definition.{Definition}
 use Rattle.plan.specs.declared.Numbers.{Numbers}
-use Rattle.plan.specs.declared.Settings.{Settings}
-use Rattle.plan.specs.Plan.{no_slow, nothing}
+use Rattle.plan.specs.declared.Slow.{Slow}
 use Rattle.plan.specs.Sound.{unmet_main, unmet_slow}
-use Rattle.definition.specs.declared.Refusal.{Refusal}
 use Rattle.definition.specs.declared.Refusal.TheVariants.{TooMany}
-use Rattle.definition.specs.declared.Verdict.TheVariants.{Pass, Refused}
-use Rattle.definition.specs.Checks.{paper_of, Finding, found, check, ◌or_else◌, unknown_in, unknown_from}
-use Rattle.definition.specs.Defined.{slow_items, slow_absent, no_slow_lists, slow_finding, judged, slow_fields, fields_of, definition_of, Answer, defined}
+use Rattle.definition.specs.Checks.{paper_of, Finding, check, ◌or_else◌, unknown_in, unknown_from}
 use Rattle.definition.specs.MainLists.{MainItems, rounds, said, in_rounds, in_lengths, main_of, in_needs, judged_main}
 use Rattle.definition.specs.Rows.{both}
 use Rattle.definition.specs.SlowLists.{SlowItems, slow_rounds, slow_said, equal_counts, slow_of, judged_four, judged_slow}
 
-pub not_none : (r : Refusal) → found (Refused r) ≡ none → ⊥
-unfolding found
-not_none r e = let z : ◌≡◌ {A = ℕ} 0 1 = cc in omega arith
-
 -- where two together find nothing, neither does
-pub else_none : (x y : Finding) → (x or_else y) ≡ none → (x ≡ none) × (y ≡ none)
+pub else_none : (x y : Finding) → (x or_else y) ≡ None → (x ≡ None) × (y ≡ None)
 unfolding ◌or_else◌
-else_none none y e = (refl, e)
-else_none (some p) y e = let z : ◌≡◌ {A = ℕ} 0 1 = cc in absurd (omega arith)
+else_none None y e = (refl, e)
+else_none (Some p) y e = let z : ◌≡◌ {A = ℕ} 0 1 = cc in absurd (omega arith)
 
 -- the first of three, however they are put together
 else_else : (x y z : Finding) → (x or_else y or_else z) ≡ ((x or_else y) or_else z)
 unfolding ◌or_else◌
-else_else none y z = refl
-else_else (some p) y z = refl
+else_else None y z = refl
+else_else (Some p) y z = refl
 
 -- ## The main lists
 
 module _ (l : MainItems) (numbers : Numbers) {n : ℕ} (is : n ≡ rounds l) where
-  pub main_too_many : 64 < n → found (Refused (TooMany n)) ≡ judged_main l numbers
-  unfolding found paper_of judged_main check ◌or_else◌
+  pub main_too_many : 64 < n → Some (paper_of (TooMany n)) ≡ judged_main l numbers
+  unfolding judged_main ◌or_else◌
   main_too_many lt = rw (sym is, lt-ltb 64 n lt)
 
   pub main_judged : {f : Finding} → f ≡ (in_rounds l n or_else in_lengths l n or_else in_needs (unmet_main (main_of l n) numbers)) → n ≤ 64
       → f ≡ judged_main l numbers
-  unfolding judged_main check ◌or_else◌
+  unfolding judged_main ◌or_else◌
   main_judged e le = e ∙ rw (sym is, le-ltb 64 n le)
 
 -- ## The slow lists
@@ -82,9 +70,12 @@ module _ (l : SlowItems) (numbers : Numbers) {n : ℕ} (is : n ≡ rounds (both 
   pub slow_rounds_law : n ≡ slow_rounds l
   slow_rounds_law = is ∙ rounds_both l
 
-  pub slow_too_many : 16 < n → found (Refused (TooMany n)) ≡ judged_slow l numbers
-  unfolding found paper_of judged_slow judged_four check ◌or_else◌
+  pub slow_too_many : 16 < n → Some (paper_of (TooMany n)) ≡ judged_slow l numbers
+  unfolding judged_slow judged_four ◌or_else◌
   slow_too_many lt = rw (sym slow_rounds_law, lt-ltb 16 n lt)
+
+  pub slow_fields_law : {s : Slow} → s ≡ slow_of l n → s ≡ slow_of l (slow_rounds l)
+  slow_fields_law e = e ∙ ap (slow_of l) slow_rounds_law
 
   abbrev lengths : Finding
   lengths = check (not (equal_counts l n)) 6 n
@@ -93,40 +84,13 @@ module _ (l : SlowItems) (numbers : Numbers) {n : ℕ} (is : n ≡ rounds (both 
   needs = in_needs (unmet_slow (slow_of l n) numbers)
 
   pub slow_judged : {f : Finding} → f ≡ (unknown_from (said (both l)) 0 (n - 0) or_else lengths or_else needs) → n ≤ 16 → f ≡ judged_slow l numbers
-  unfolding judged_slow judged_four check ◌or_else◌
+  unfolding judged_slow judged_four ◌or_else◌
   slow_judged e le =
       e
       ∙ ap (λ x. x or_else lengths or_else needs) (ap (unknown_from (said (both l)) 0) (sub-zero n) ∙ unknown_slow l 0 n)
       ∙ else_else (unknown_from (slow_said l) 0 n) lengths needs
       ∙ rw (sym slow_rounds_law, le-ltb 16 n le)
 
-module _ (text : List ℕ) (l : SlowLists) (numbers : Numbers) where
-  pub no_slow_law : no_slow_lists l ≡ true → found Pass ≡ slow_finding text l numbers
-  unfolding found slow_finding
-  no_slow_law e = rw e
+pub ruleset main_rows = (main_too_many, main_judged)
 
-  pub no_slow_fields : no_slow_lists l ≡ true → no_slow ≡ slow_fields text l
-  unfolding slow_fields
-  no_slow_fields e = rw e
-
-  pub some_slow : {f : Finding} → no_slow_lists l ≡ false → f ≡ (slow_absent text l or_else judged_slow (slow_items text l) numbers)
-      → f ≡ slow_finding text l numbers
-  unfolding slow_finding
-  some_slow e is = is ∙ rw e
-
-  pub some_slow_fields : no_slow_lists l ≡ false → slow_of (slow_items text l) (slow_rounds (slow_items text l)) ≡ slow_fields text l
-  unfolding slow_fields
-  some_slow_fields e = rw e
-
--- ## The definition
-
-module _ (text : List ℕ) (l : Lists) (numbers : Numbers) (settings : Settings) where
-  pub defined_pass : {d : Definition} → none ≡ judged text l numbers settings → d ≡ fields_of text l numbers settings
-      → ◌≡◌ {A = Answer} (record { finding = found Pass; definition = d }) (defined text l numbers settings)
-  unfolding found defined definition_of
-  defined_pass e is i = record { finding = e i; definition = (is ∙ ap (λ f. definition_of f (fields_of text l numbers settings)) e) i }
-
-  pub defined_refused : (r : Refusal) {d : Definition} → found (Refused r) ≡ judged text l numbers settings → d ≡ nothing
-      → ◌≡◌ {A = Answer} (record { finding = found (Refused r); definition = d }) (defined text l numbers settings)
-  unfolding found defined definition_of
-  defined_refused r e is i = record { finding = e i; definition = (is ∙ ap (λ f. definition_of f (fields_of text l numbers settings)) e) i }
+pub ruleset slow_rows = (slow_too_many, slow_judged, slow_fields_law)

@@ -1,73 +1,54 @@
 -- Rows cut to the fields of a definition: room i holds what item i + first says, up to item n, and 0 behind.
-use Prim.Native.Nat.{ℕ, ◌+◌, ◌-◌, ◌<◌, ◌≤◌}
-use mathlib.Core.Bool.{cond}
-use mathlib.Core.List.{List}
-use mathlib.Core.Path.{◌≡◌, sym, ap, ◌∙◌}
-use native.Mathlib.Decide.{dec_lt, ℕ_discrete}
-use native.Mathlib.Omega.{arith}
-use lib.Dec.{eqb, ltb}
-use lib.ListN.{get_or, set, replicate}
-use borrow.Author.Tests.{lt-ltb, le-ltb, eq-eqb, ne_eqb}
+use Rattle.std.proofs.Common.{◌≡◌, ℕ, ◌+◌, ◌-◌, ◌<◌, ◌≤◌, min, cond, List, ◌++◌}
+use Rattle.std.proofs.Common.{length, get_or, take, drop, replicate, refl, ap, ◌∙◌, length-append, length-drop, arith}
+use Rattle.std.proofs.lemmas.List.{get_or_append_left, get_or-append_right, get_or-take, get_or-drop, get_or-replicate, length-replicate}
+use native.Mathlib.Decide.{dec_lt}
+use lib.Dec.{ltb}
+use lib.ListN.{length-take}
+use borrow.Author.Tests.{lt-ltb, le-ltb}
 use Rattle.items.specs.declared.Of.{Of}
 use Rattle.items.specs.declared.Row.{Row}
 use Rattle.items.specs.Items.{at}
 use Rattle.items.specs.Rows.{code_of, row_of}
 use Rattle.items.specs.Table.{table}
 use Rattle.items.proofs.Rows.{codes_at}
-use Rattle.items.proofs.Tables.{table_same, set_table, replicate_table}
+use Rattle.items.proofs.Tables.{table_same, table_of}
 use Rattle.definition.specs.MainLists.{Items, fields_from}
 use Rattle.definition.specs.Rows.{cut_to}
 
-module _ (first rooms : ℕ) (codes : List ℕ) where
-  -- what room i holds, of the items below k
-  abbrev room : ℕ → ℕ → ℕ
-  room k i = cond (ltb (i + first) k) (get_or codes (i + first) 0) 0
+-- the items of a row from `first` up to n, and zeros behind them, in `rooms` rooms
+module _ (first rooms n : ℕ) (row : Row) (in-row : n ≤ length row.codes) (in-rooms : n ≤ first + rooms) where
+  abbrev copied : List ℕ
+  copied = take (n - min first n) (drop (min first n) row.codes)
 
-  -- the items from `first` up to k are laid
-  pub record Laid (fields : List ℕ) (k : ℕ) : Type 0 where
-    pub from : first ≤ k
-    pub are : fields ≡ table rooms (room k)
+  copied_length : length copied ≡ n - first
+  copied_length = length-take (n - min first n) (drop (min first n) row.codes) ∙ omega (arith, length-drop (min first n) row.codes)
 
-  pub laid_first : Laid (replicate rooms 0) first
-  laid_first =
-      record {
-        from = omega arith;
-        are =
-            replicate_table rooms 0
-            ∙ table_same rooms _ _ (λ i _. sym (ap (λ t. cond t (get_or codes (i + first) 0) 0) (le-ltb (i + first) first (omega arith))));
-      }
+  abbrev laid : List ℕ
+  laid = copied ++ drop (length copied) (replicate rooms 0)
 
-  one_more : (k j i : ℕ) → j + first ≡ k → cond (eqb i j) (get_or codes k 0) (room k i) ≡ room (k + 1) i
-  one_more k j i here = by (ℕ_discrete i j)
+  laid_length : length laid ≡ rooms
+  laid_length =
+      let zeros = replicate {A = ℕ} rooms 0 in
+      omega (arith, length-append copied (drop (length copied) zeros), length-drop (length copied) zeros, length-replicate {A = ℕ} rooms 0, copied_length)
+
+  laid_at : (i : ℕ) → i < rooms → get_or laid i 0 ≡ cond (ltb (i + first) n) (get_or row.codes (i + first) 0) 0
+  laid_at i h = by (dec_lt (i + first) n)
     where
-      by : Dec (i ≡ j) → cond (eqb i j) (get_or codes k 0) (room k i) ≡ room (k + 1) i
-      by (yes e) =
-          let z : k ≡ i + first = omega arith in
-          rw (eq-eqb i j e, lt-ltb (i + first) (k + 1) (omega arith)) (ap (λ m. get_or codes m 0) z)
-      by (no n) = rw (ne_eqb i j n) (ap (λ t. cond t (get_or codes (i + first) 0) 0) (below (dec_lt (i + first) k)))
-        where
-          below : Dec (i + first < k) → ltb (i + first) k ≡ ltb (i + first) (k + 1)
-          below (yes lt) = lt-ltb (i + first) k lt ∙ sym (lt-ltb (i + first) (k + 1) (omega arith))
-          below (no ge) = le-ltb (i + first) k (omega arith) ∙ sym (le-ltb (i + first) (k + 1) (omega arith))
+      by : Dec (i + first < n) → get_or laid i 0 ≡ cond (ltb (i + first) n) (get_or row.codes (i + first) 0) 0
+      by (yes lt) =
+          let here : min first n + i ≡ i + first = omega arith in
+          rw (lt-ltb (i + first) n lt)
+          (get_or_append_left copied _ 0 i (omega (arith, copied_length)) ∙ get_or-take (n - min first n) _ i 0 (omega arith)
+          ∙ get_or-drop (min first n) row.codes i 0 ∙ ap (λ k. get_or row.codes k 0) here)
+      by (no ge) =
+          rw (le-ltb (i + first) n (omega arith))
+          (get_or-append_right copied _ (length copied) i 0 refl (omega (arith, copied_length))
+          ∙ get_or-drop (length copied) (replicate rooms 0) (i - length copied) 0
+          ∙ get_or-replicate rooms (length copied + (i - length copied)) 0 0 (omega (arith, copied_length)))
 
-  pub laid_on : {fields : List ℕ} {k v : ℕ} (j : ℕ) → Laid fields k → v ≡ get_or codes k 0 → j + first ≡ k → Laid (set fields j v) (k + 1)
-  laid_on {fields} {k} {v} j l e here =
-      record {
-        from = omega (arith, l.from);
-        are =
-            ap (λ f. set f j v) l.are
-            ∙ ap (λ x. set (table rooms (room k)) j x) e
-            ∙ set_table rooms (room k) j (get_or codes k 0)
-            ∙ table_same rooms _ _ (λ i _. one_more k j i here);
-      }
-
-  -- all n items are laid, or none where n is at most `first`
-  pub laid_end : {fields : List ℕ} {k n : ℕ} → Laid fields k → (n ≤ k) × (k - first ≤ n - first) → fields ≡ table rooms (room n)
-  laid_end {k = k} {n = n} l b = l.are ∙ table_same rooms _ _ (λ i _. ap (λ t. cond t (get_or codes (i + first) 0) 0) (by i (dec_lt (i + first) n)))
-    where
-      by : (i : ℕ) → Dec (i + first < n) → ltb (i + first) k ≡ ltb (i + first) n
-      by i (yes lt) = lt-ltb (i + first) k (omega (arith, b)) ∙ sym (lt-ltb (i + first) n lt)
-      by i (no ge) = le-ltb (i + first) k (omega (arith, b, l.from)) ∙ sym (le-ltb (i + first) n (omega arith))
+  pub laid_is : laid ≡ cut_to first rooms n row
+  laid_is = table_of laid 0 ∙ ap (λ m. table m (λ i. get_or laid i 0)) laid_length ∙ table_same rooms _ _ laid_at
 
 -- the rooms of a row's first n items are what the items say
 pub laid_fields : (first rooms : ℕ) {row : Row} {n : ℕ} (of : Of) (l : Items) → row ≡ row_of of l → n ≤ 64

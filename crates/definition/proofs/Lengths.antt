@@ -1,40 +1,30 @@
--- The lists' lengths, as the code goes about them: it carries whether every list so far has another length than n.
-use Prim.Native.Nat.{ℕ, ◌+◌}
-use mathlib.Core.Bool.{Bool, true, false, cond, not, ◌&&◌, ◌||◌}
-use mathlib.Core.List.{List, [], ◌∷◌}
-use mathlib.Core.Path.{◌≡◌, refl, ap, ◌∙◌}
-use lib.Dec.{eqb}
+-- The lists' lengths, as the code goes about them: the counts in the zips' order, of which it asks one and those before it.
+use Rattle.std.proofs.Common.{◌≡◌, ℕ, ◌+◌, ◌<◌, Bool, cond, not, ◌||◌, eqb, List, [], ◌∷◌, length, get_or, take, reverse, refl, sym, ap, ◌∙◌}
+use Rattle.std.specs.List.{list_any}
+use Rattle.std.proofs.Math.Bool.{or_comm}
+use Rattle.std.proofs.lemmas.List.Folds.{list_any_more}
+use Rattle.std.proofs.lemmas.List.Sorted.{list_any-IsPermutation, IsPermutation-reverse}
 use Rattle.definition.specs.MainLists.{reached, wrong}
 
--- neither of two tests holds
-neither : (p q : Bool) → (not q && not p) ≡ not (p || q)
-neither true true = refl
-neither true false = refl
-neither false true = refl
-neither false false = refl
-
--- a test turned round chooses the other of two
-turned : (x y : ℕ) (q : Bool) → cond (not q) x y ≡ cond q y x
-turned x y true = refl
-turned x y false = refl
-
--- the flag says that no list so far has n items
-pub record Longer (n : ℕ) (before : List ℕ) (longer : Bool) : Type 0 where
-  pub is : longer ≡ not (reached n before)
-
-pub longer_first : (n : ℕ) → Longer n [] true
+reached_any : (n : ℕ) (cs : List ℕ) → reached n cs ≡ list_any (λ c. eqb c n) cs
 unfolding reached
-longer_first n = record { is = refl }
+reached_any n [] = refl
+reached_any n (c ∷ cs) = ap (λ b. eqb c n || b) (reached_any n cs)
 
--- one list more
-pub longer_on : (count : ℕ) {n : ℕ} {before : List ℕ} {longer r : Bool}
-    → Longer n before longer → r ≡ (longer && not (eqb count n)) → Longer n (count ∷ before) r
+reached_reversed : (n : ℕ) (cs : List ℕ) → list_any (λ c. eqb c n) cs ≡ reached n (reverse cs)
+reached_reversed n cs = list_any-IsPermutation (λ c. eqb c n) cs (reverse cs) (IsPermutation-reverse cs) ∙ sym (reached_any n (reverse cs))
+
+-- a list and those before it
+pub reached_is : (n : ℕ) (counts : List ℕ) (place : ℕ) → place < length counts
+    → list_any (λ c. eqb c n) (take (place + 1) counts) ≡ reached n (get_or counts place 0 ∷ reverse (take place counts))
 unfolding reached
-longer_on count {n} {before} l e = record { is = e ∙ ap (λ b. b && not (eqb count n)) l.is ∙ neither (eqb count n) (reached n before) }
+reached_is n counts place h =
+    list_any_more (λ c. eqb c n) counts place 0 h
+    ∙ or_comm (list_any (λ c. eqb c n) (take place counts)) (eqb (get_or counts place 0) n)
+    ∙ ap (λ b. eqb (get_or counts place 0) n || b) (reached_reversed n (take place counts))
 
--- the list is judged by its own flag
-pub wrong_said : {n count : ℕ} {before : List ℕ} {longer r : Bool} → Longer n (count ∷ before) longer
-    → r ≡ not (eqb count (cond longer (n + 1) n)) → r ≡ wrong n count before
+-- its length is judged by whether n is among them
+pub wrong_is : (n count : ℕ) (before : List ℕ) {b : Bool} {must : ℕ} → b ≡ reached n (count ∷ before) → must ≡ cond b n (n + 1)
+    → not (eqb count must) ≡ wrong n count before
 unfolding wrong
-wrong_said {n} {count} {before} l e =
-    e ∙ ap (λ b. not (eqb count (cond b (n + 1) n))) l.is ∙ ap (λ m. not (eqb count m)) (turned (n + 1) n (reached n (count ∷ before)))
+wrong_is n count before e is = ap (λ m. not (eqb count m)) (is ∙ ap (λ b. cond b n (n + 1)) e)

@@ -1,7 +1,7 @@
 -- The rules' numbers tell the refusals apart: a refusal, and a verdict, can be read back from what it says in them.
 use Prim.Native.Nat.{◌-◌}
 use mathlib.Core.List.{[], ◌∷◌}
-use mathlib.Core.Option.{none, some}
+use Rattle.std.specs.Prelude.{None, Some, Result, Ok, Err}
 use mathlib.Core.Path.{◌≡◌, refl, ap}
 use lib.ListN.{get_or}
 use Rattle.plan.proofs.Papers.{read_back}
@@ -9,8 +9,6 @@ use Rattle.definition.specs.declared.Paper.{Paper}
 use Rattle.definition.specs.declared.Refusal.{Refusal}
 use Rattle.definition.specs.declared.Refusal.TheVariants.{Absent, TooMany, Unknown, NotIteration, NotTime}
 use Rattle.definition.specs.declared.Refusal.TheVariants.{WrongLength, WrongLengthInter, Unmet, Interval}
-use Rattle.definition.specs.declared.Verdict.{Verdict}
-use Rattle.definition.specs.declared.Verdict.TheVariants.{Pass, Refused}
 use Rattle.definition.specs.Checks.{paper_of, Finding, found}
 
 -- refusals 1 to 9 in their order
@@ -30,7 +28,7 @@ refusal_of p =
     (p.number - 1) Interval
 
 refusal_back : (r : Refusal) → refusal_of (paper_of r) ≡ r
-unfolding paper_of refusal_of
+unfolding refusal_of
 refusal_back (Absent list) = refl
 refusal_back (TooMany n) = refl
 refusal_back (Unknown list round) = refl
@@ -44,14 +42,14 @@ refusal_back Interval = refl
 pub paper_injective : (r s : Refusal) → paper_of r ≡ paper_of s → r ≡ s
 paper_injective = read_back paper_of refusal_of refusal_back
 
-verdict_of : Finding → Verdict
-verdict_of none = Pass
-verdict_of (some p) = Refused (refusal_of p)
+verdict_of : Finding → Result (Unit {0}) Refusal
+verdict_of None = Ok tt
+verdict_of (Some p) = Err (refusal_of p)
 
-verdict_back : (v : Verdict) → verdict_of (found v) ≡ v
-unfolding found verdict_of
-verdict_back Pass = refl
-verdict_back (Refused r) = ap Refused (refusal_back r)
+verdict_back : (v : Result (Unit {0}) Refusal) → verdict_of (found v) ≡ v
+unfolding verdict_of
+verdict_back (Ok _) = refl
+verdict_back (Err r) = ap Err (refusal_back r)
 
-pub found_injective : (v w : Verdict) → found v ≡ found w → v ≡ w
+pub found_injective : (v w : Result (Unit {0}) Refusal) → found v ≡ found w → v ≡ w
 found_injective = read_back found verdict_of verdict_back

@@ -2,7 +2,7 @@
 use Prim.Native.Nat.{ℕ, zero, suc, ◌+◌, ◌-◌, ◌<◌, ◌≤◌}
 use mathlib.Core.Bool.{Bool, true, false, cond, not, true≢false}
 use mathlib.Core.List.{List, [], ◌∷◌}
-use mathlib.Core.Option.{Option, none, some}
+use Rattle.std.specs.Prelude.{Option, None, Some}
 use mathlib.Core.Path.{◌≡◌, refl, sym, ap, ◌∙◌}
 use native.Mathlib.Nat.{zero-add}
 use native.Mathlib.Omega.{arith}
@@ -19,8 +19,6 @@ use Rattle.plan.specs.declared.Numbers.{Numbers}
 use Rattle.plan.specs.declared.Settings.{Settings}
 use Rattle.plan.specs.Known.{among, predictors, encodings}
 use Rattle.plan.specs.Plan.{no_slow, nothing}
-use Rattle.plan.specs.declared.Need.{Need}
-use Rattle.plan.specs.declared.Need.TheVariants.{Met, Unmet}
 use Rattle.plan.specs.Sound.{known, unmet_from, unmet_slow, sound_main, sound_slow, is_interval, sound}
 use Rattle.plan.proofs.Needs.{known_all}
 use Rattle.plan.proofs.Sound.{main_sound_made, slow_sound_made, sound_made, nothing_sound}
@@ -34,42 +32,41 @@ use Rattle.definition.proofs.Judged.{else_none}
 
 -- ## Checks that find nothing
 
-test_none : (t : Bool) (p : Paper) (r : Finding) → cond t (some p) r ≡ none → (t ≡ false) × (r ≡ none)
+test_none : (t : Bool) (p : Paper) (r : Finding) → cond t (Some p) r ≡ None → (t ≡ false) × (r ≡ None)
 test_none true p r e = let z : ◌≡◌ {A = ℕ} 0 1 = cc in absurd (omega arith)
 test_none false p r e = (refl, e)
 
-check_none : (t : Bool) (number place : ℕ) → check t number place ≡ none → t ≡ false
-unfolding check
+check_none : (t : Bool) (number place : ℕ) → check t number place ≡ None → t ≡ false
 check_none t number place e = (test_none t _ _ e).0
 
 -- where four checks, one after another, find nothing, none of them does
-four_none : (a b c d : Finding) → (a or_else b or_else c or_else d) ≡ none → (a ≡ none) × (b ≡ none) × (c ≡ none) × (d ≡ none)
+four_none : (a b c d : Finding) → (a or_else b or_else c or_else d) ≡ None → (a ≡ None) × (b ≡ None) × (c ≡ None) × (d ≡ None)
 four_none a b c d e =
     let one = else_none a _ e in
     let two = else_none b _ one.1 in
     let three = else_none c d two.1 in
     (one.0, two.0, three.0, three.1)
 
-needs_none : (need : Need) → in_needs need ≡ none → need ≡ Met
+needs_none : (need : Option ℕ) → in_needs need ≡ None → need ≡ None
 unfolding in_needs
-needs_none Met e = refl
-needs_none (Unmet field) e = let z : ◌≡◌ {A = ℕ} 0 1 = cc in absurd (omega arith)
+needs_none None e = refl
+needs_none (Some field) e = let z : ◌≡◌ {A = ℕ} 0 1 = cc in absurd (omega arith)
 
 -- ## Check 3
 
 -- what the list at place j says; behind the last, something known
 abbrev saying : List (ℕ × Option ℕ) → ℕ → Option ℕ
-saying ls j = (get_or ls j (0, some 0)).1
+saying ls j = (get_or ls j (0, Some 0)).1
 
 -- in a round that passes, every item is known
-known_in : (k : ℕ) (ls : List (ℕ × Option ℕ)) → unknown_in k ls ≡ none → (j : ℕ) → unknown (saying ls j) ≡ false
+known_in : (k : ℕ) (ls : List (ℕ × Option ℕ)) → unknown_in k ls ≡ None → (j : ℕ) → unknown (saying ls j) ≡ false
 unfolding unknown_in
 known_in k [] e j = refl
 known_in k (l ∷ ls) e zero = (test_none (unknown l.1) _ _ e).0
 known_in k (l ∷ ls) e (suc j) = known_in k ls (test_none (unknown l.1) _ _ e).1 j
 
 -- and so in each of m rounds
-known_from : (said : ℕ → List (ℕ × Option ℕ)) (k m : ℕ) → unknown_from said k m ≡ none
+known_from : (said : ℕ → List (ℕ × Option ℕ)) (k m : ℕ) → unknown_from said k m ≡ None
     → (i : ℕ) → i < m → (j : ℕ) → unknown (saying (said (i + k)) j) ≡ false
 unfolding unknown_from
 known_from said k zero e i h j = absurd (omega arith)
@@ -79,9 +76,9 @@ known_from said k (suc m) e (suc i) h j =
     rw on (known_from said (suc k) m (else_none _ _ e).1 i (omega arith) j)
 
 -- a known item says one of the numbers that there are
-known_among : (ns : List ℕ) (o : Option ℕ) → ((n : ℕ) → o ≡ some n → among ns n ≡ true) → unknown o ≡ false → among ns (numbered o) ≡ true
-known_among ns none h e = absurd (true≢false e)
-known_among ns (some n) h e = h n refl
+known_among : (ns : List ℕ) (o : Option ℕ) → ((n : ℕ) → o ≡ Some n → among ns n ≡ true) → unknown o ≡ false → among ns (numbered o) ≡ true
+known_among ns None h e = absurd (true≢false e)
+known_among ns (Some n) h e = h n refl
 
 -- ## The rooms of m fields
 
@@ -95,9 +92,9 @@ module _ (first rooms n m : ℕ) (few : (m ≤ rooms) × (m ≤ n - first)) wher
       ∙ ap (λ t. cond t (code (at l (i + first))) 0) (lt-ltb (i + first) n (omega arith))
 
   -- m rounds that pass check 3
-  module _ (said : ℕ → List (ℕ × Option ℕ)) (passed : unknown_from said first m ≡ none) where
+  module _ (said : ℕ → List (ℕ × Option ℕ)) (passed : unknown_from said first m ≡ None) where
     -- the codes of a list that stands at place j of a round are numbers that there are
-    code_among : (ns : List ℕ) (of : List ℕ → Option ℕ) → ((item : List ℕ) (k : ℕ) → of item ≡ some k → among ns k ≡ true)
+    code_among : (ns : List ℕ) (of : List ℕ → Option ℕ) → ((item : List ℕ) (k : ℕ) → of item ≡ Some k → among ns k ≡ true)
         → (l : Items) (j : ℕ) → ((k : ℕ) → saying (said k) j ≡ of (at l k))
         → (i : ℕ) → i < m → among ns (get_or (take m (fields_from first rooms n (λ item. numbered (of item)) l)) i 0) ≡ true
     code_among ns of are l j is i h =
@@ -117,8 +114,8 @@ module _ (first rooms n m : ℕ) (few : (m ≤ rooms) × (m ≤ n - first)) wher
 
 -- ## Main lists that pass
 
-module _ (l : MainItems) (numbers : Numbers) (passed : judged_main l numbers ≡ none) where
-  in_rounds_law : in_rounds l (rounds l) ≡ none
+module _ (l : MainItems) (numbers : Numbers) (passed : judged_main l numbers ≡ None) where
+  in_rounds_law : in_rounds l (rounds l) ≡ None
   unfolding judged_main
   in_rounds_law = (four_none _ _ _ _ passed).1
 
@@ -140,8 +137,8 @@ module _ (l : MainItems) (numbers : Numbers) (passed : judged_main l numbers ≡
 
 -- ## Slow lists that pass
 
-module _ (l : SlowItems) (numbers : Numbers) (passed : judged_slow l numbers ≡ none) where
-  parts : (judged_four 16 l ≡ none) × (in_needs (unmet_slow (slow_of l (slow_rounds l)) numbers) ≡ none)
+module _ (l : SlowItems) (numbers : Numbers) (passed : judged_slow l numbers ≡ None) where
+  parts : (judged_four 16 l ≡ None) × (in_needs (unmet_slow (slow_of l (slow_rounds l)) numbers) ≡ None)
   unfolding judged_slow
   parts = else_none _ _ passed
 
@@ -163,15 +160,15 @@ unfolding sound_slow unmet_slow unmet_from known
 no_slow_sound numbers = refl
 
 -- what slow lists that pass give has at most 16 items, and is sound
-slow_passed : (text : List ℕ) (l : SlowLists) (numbers : Numbers) → slow_finding text l numbers ≡ none
+slow_passed : (text : List ℕ) (l : SlowLists) (numbers : Numbers) → slow_finding text l numbers ≡ None
     → ((slow_fields text l).n ≤ 16) × (sound_slow (slow_fields text l) numbers ≡ true)
-unfolding slow_finding slow_fields slow_of
+unfolding slow_finding slow_of
 slow_passed text l numbers e = by (no_slow_lists l) e
   where
     items : SlowItems
     items = slow_items text l
 
-    by : (t : Bool) → cond t none (slow_absent text l or_else judged_slow items numbers) ≡ none
+    by : (t : Bool) → cond t None (slow_absent text l or_else judged_slow items numbers) ≡ None
         → ((cond t no_slow (slow_of items (slow_rounds items))).n ≤ 16) × (sound_slow (cond t no_slow (slow_of items (slow_rounds items))) numbers ≡ true)
     by true e = (omega arith, no_slow_sound numbers)
     by false e = let passed = (else_none _ _ e).1 in (slow_count items numbers passed, slow_sound items numbers passed)
@@ -184,16 +181,16 @@ module _ (text : List ℕ) (l : Lists) (numbers : Numbers) (settings : Settings)
   unfolding defined
   by_finding e = ap (λ f. definition_of f (fields_of text l numbers settings)) e
 
-  pub defined_refused_has_no_fields : {p : Paper} → (defined text l numbers settings).finding ≡ some p → (defined text l numbers settings).definition ≡ nothing
+  pub defined_refused_has_no_fields : {p : Paper} → (defined text l numbers settings).finding ≡ Some p → (defined text l numbers settings).definition ≡ nothing
   unfolding definition_of
   defined_refused_has_no_fields = by_finding
 
-  module _ (accepted : (defined text l numbers settings).finding ≡ none) where
+  module _ (accepted : (defined text l numbers settings).finding ≡ None) where
     pub defined_accepted_has_its_fields : (defined text l numbers settings).definition ≡ fields_of text l numbers settings
     unfolding definition_of
     defined_accepted_has_its_fields = by_finding accepted
 
-    passed : (judged_main (main_items text l.main) numbers ≡ none) × (slow_finding text l.slow numbers ≡ none)
+    passed : (judged_main (main_items text l.main) numbers ≡ None) × (slow_finding text l.slow numbers ≡ None)
         × (not (is_interval settings.interval) ≡ false)
     unfolding defined judged main_finding in_interval fields_of
     passed =
@@ -219,5 +216,5 @@ module _ (text : List ℕ) (l : Lists) (numbers : Numbers) (settings : Settings)
   defined_sound = by (defined text l numbers settings).finding refl
     where
       by : (f : Finding) → (defined text l numbers settings).finding ≡ f → sound (defined text l numbers settings).definition ≡ true
-      by none e = accepted_sound e
-      by (some p) e = ap sound (defined_refused_has_no_fields e) ∙ nothing_sound
+      by None e = accepted_sound e
+      by (Some p) e = ap sound (defined_refused_has_no_fields e) ∙ nothing_sound

@@ -1,6 +1,5 @@
 -- The definition that a log's lists give, or the refusal (document 01, "Definition lists"): main lists to 8, slow ones next, then 9.
-use Rattle.std.specs.Prelude.{ℕ, Bool, cond, not, ◌&&◌, List}
-use Rattle.std.proofs.Math.Option.{none, some}
+use Rattle.std.specs.Prelude.{ℕ, Bool, cond, not, ◌&&◌, Some, None, List}
 use Rattle.items.specs.declared.Lists.{Lists}
 use Rattle.items.specs.declared.MainLists.{MainLists}
 use Rattle.items.specs.declared.SlowLists.{SlowLists}
@@ -64,12 +63,12 @@ main_finding text l numbers = main_absent text l or_else judged_main (main_items
 
 unfoldable pub slow_finding : List ℕ → SlowLists → Numbers → Finding
 slow_finding text l numbers =
-    cond (no_slow_lists l) none (slow_absent text l or_else judged_slow (slow_items text l) numbers)
+    cond (no_slow_lists l) None (slow_absent text l or_else judged_slow (slow_items text l) numbers)
 
 abbrev pub main_fields : List ℕ → MainLists → Main
 main_fields text l = main_of (main_items text l) (rounds (main_items text l))
 
-unfoldable pub slow_fields : List ℕ → SlowLists → Slow
+abbrev pub slow_fields : List ℕ → SlowLists → Slow
 slow_fields text l = cond (no_slow_lists l) no_slow (slow_of (slow_items text l) (slow_rounds (slow_items text l)))
 
 unfoldable pub fields_of : List ℕ → Lists → Numbers → Settings → Definition
@@ -94,8 +93,8 @@ judged text l numbers settings =
 
 -- refusals 1 to 9 give a definition with no fields
 unfoldable pub definition_of : Finding → Definition → Definition
-definition_of none d = d
-definition_of (some refused) d = nothing
+definition_of None d = d
+definition_of (Some refused) d = nothing
 
 -- an answer: what is found, in the rules' numbers, and the definition
 pub record Answer : Type 0 where

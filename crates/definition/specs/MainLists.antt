@@ -1,13 +1,10 @@
 -- The six lists of a main definition (document 01, "Definition lists"): the checks, and the fields.
-use Rattle.std.specs.Prelude.{ℕ, zero, suc, ◌+◌, ◌-◌, min, Bool, false, cond, not, ◌&&◌, ◌||◌, List, [], ◌∷◌, eqb, ltb, length}
-use Rattle.std.proofs.Math.Option.{Option, none, some}
+use Rattle.std.specs.Prelude.{ℕ, zero, suc, ◌+◌, ◌-◌, min, Bool, false, cond, not, ◌&&◌, ◌||◌, Option, Some, None, List, [], ◌∷◌, eqb, ltb, length}
 use Rattle.items.specs.Items.{at}
 use Rattle.items.specs.Said.{predictor_of, encoding_of, numbered, sign_code}
 use Rattle.items.specs.Table.{table}
 use Rattle.items.specs.Text.{ascii, same}
 use Rattle.plan.specs.declared.Main.{Main}
-use Rattle.plan.specs.declared.Need.{Need}
-use Rattle.plan.specs.declared.Need.TheVariants as need
 use Rattle.plan.specs.declared.Numbers.{Numbers}
 use Rattle.plan.specs.Sound.{unmet_main}
 use Rattle.definition.specs.Checks.{Finding, refusal, check, ◌or_else◌, unknown_in, unknown_from}
@@ -43,8 +40,8 @@ said l k =
 
 -- an item says this number
 abbrev pub says : ℕ → Option ℕ → Bool
-says n none = false
-says n (some m) = eqb m n
+says n None = false
+says n (Some m) = eqb m n
 
 -- round k has this name, and these numbers in lists 1 to 4
 unfoldable pub is_field : MainItems → ℕ → List ℕ → (a b c d : ℕ) → Bool
@@ -124,9 +121,9 @@ main_of l n =
     }
 
 -- check 8, over the finished fields
-unfoldable pub in_needs : Need → Finding
-in_needs need.Met = none
-in_needs (need.Unmet field) = some (refusal 8 field 0)
+unfoldable pub in_needs : Option ℕ → Finding
+in_needs None = None
+in_needs (Some field) = Some (refusal 8 field 0)
 
 -- ## Checks 2 to 8 of six lists that are there
 

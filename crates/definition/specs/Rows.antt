@@ -36,13 +36,13 @@ both l =
     }
 
 -- round k has this name, and these numbers in lists 1 to 4, by its codes
-abbrev pub is_coded : Rows → ℕ → (name a b c d : ℕ) → Bool
-is_coded rows k name a b c d =
+abbrev pub is_coded : Rows → (k name : ℕ) → List ℕ → Bool
+is_coded rows k name numbers =
     eqb (get_or rows.names.codes k 0) name
-    && (eqb (get_or rows.intra_predictors.codes k 0) a
-    && (eqb (get_or rows.inter_predictors.codes k 0) b
-    && (eqb (get_or rows.intra_encodings.codes k 0) c
-    && eqb (get_or rows.inter_encodings.codes k 0) d)))
+    && (eqb (get_or rows.intra_predictors.codes k 0) (get_or numbers 0 0)
+    && (eqb (get_or rows.inter_predictors.codes k 0) (get_or numbers 1 0)
+    && (eqb (get_or rows.intra_encodings.codes k 0) (get_or numbers 2 0)
+    && eqb (get_or rows.inter_encodings.codes k 0) (get_or numbers 3 0))))
 
 -- what the codes of a row say of its fields: field i is item i + first, and 0 stands behind the last of n items
 abbrev pub cut_to : (first rooms n : ℕ) → Row → List ℕ

@@ -1,6 +1,5 @@
 -- The four lists of a slow definition, 0, 1, 3 and 5 (document 01, "Definition lists"): the checks, and the fields.
-use Rattle.std.specs.Prelude.{ℕ, min, Bool, not, ◌&&◌, List, [], ◌∷◌, eqb, ltb, length}
-use Rattle.std.proofs.Math.Option.{Option}
+use Rattle.std.specs.Prelude.{ℕ, min, Bool, not, ◌&&◌, Option, List, [], ◌∷◌, eqb, ltb, length}
 use Rattle.items.specs.Items.{at}
 use Rattle.items.specs.Said.{predictor_of, encoding_of, sign_code}
 use Rattle.plan.specs.declared.Numbers.{Numbers}

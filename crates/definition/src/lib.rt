@@ -2,8 +2,10 @@
 // The Rust judges while it zips lazy items; here the lists are read into rows once, and the checks are a chain over rows.
 #![tactic(auto)]
 
-ghost use Rattle.std.specs.Prelude.{◌≡◌};
+ghost use Rattle.std.specs.Prelude.{◌≡◌, IfOk};
 ghost use Rattle.plan.specs.Plan.{no_numbers, plain};
+ghost use Rattle.definition.specs.Checks.{found};
+ghost use Rattle.definition.specs.Defined.{judged, fields_of};
 ghost use Rattle.definition.specs.Owes.{PaperOwes, DefineOwes};
 
 mod checks;
@@ -12,7 +14,7 @@ mod reading;
 mod slow_lists;
 
 use items::{Lists, Row};
-use plan::{Definition, HeaderNumber, Main, Numbers, Settings, Slow};
+use plan::{Definition, Numbers, Settings};
 
 // Why lists are refused, 1 to 9, with what the refusal's place says: a list, a number of rounds, a round, a field.
 #[derive(Clone, Copy)]
@@ -28,12 +30,6 @@ pub enum Refusal {
     Interval,
 }
 
-#[derive(Clone, Copy)]
-pub enum Verdict {
-    Pass,
-    Refused(Refusal),
-}
-
 // A refusal in the rules' own numbers. Only refusal 3 has a round; its place is the list.
 #[derive(Clone, Copy)]
 pub struct Paper {
@@ -45,7 +41,7 @@ pub struct Paper {
 // The verdict stands beside the definition: a refused one has no fields.
 #[derive(Clone, Copy)]
 pub struct Defined {
-    pub verdict: Verdict,
+    pub verdict: Result<(), Refusal>,
     pub definition: Definition,
 }
 
@@ -60,71 +56,67 @@ struct Rows {
     signs: Row,
 }
 
-// A verdict on the main lists, and their fields where they pass.
-#[derive(Clone, Copy)]
-struct MainJudged {
-    verdict: Verdict,
-    fields: Main,
-}
-
-// The same for the slow lists.
-#[derive(Clone, Copy)]
-struct SlowJudged {
-    verdict: Verdict,
-    fields: Slow,
-}
-
 impl Refusal {
     // The refusal's number and place.
     pub fn paper(self) -> Paper
         ensures { PaperOwes self result }
     {
-        match self {
-            Refusal::Absent(list) => checks::paper(1, list, 0),
-            Refusal::TooMany(n) => checks::paper(2, n, 0),
-            Refusal::Unknown(list, round) => checks::paper(3, list, round),
-            Refusal::NotIteration => checks::paper(4, 0, 0),
-            Refusal::NotTime => checks::paper(5, 1, 0),
-            Refusal::WrongLength(n) => checks::paper(6, n, 0),
-            Refusal::WrongLengthInter(n) => checks::paper(7, n, 0),
-            Refusal::Unmet(field) => checks::paper(8, field, 0),
-            Refusal::Interval => checks::paper(9, 0, 0),
+        let (number, place, round) = match self {
+            Refusal::Absent(list) => (1, list, 0),
+            Refusal::TooMany(n) => (2, n, 0),
+            Refusal::Unknown(list, round) => (3, list, round),
+            Refusal::NotIteration => (4, 0, 0),
+            Refusal::NotTime => (5, 1, 0),
+            Refusal::WrongLength(n) => (6, n, 0),
+            Refusal::WrongLengthInter(n) => (7, n, 0),
+            Refusal::Unmet(field) => (8, field, 0),
+            Refusal::Interval => (9, 0, 0),
+        };
+        Paper {
+            number,
+            place,
+            round,
         }
     }
 }
 
-// The definition that the lists of a text give, or the refusal: main lists first, slow ones next, then the interval.
-pub fn define(text: &[u8], lists: Lists, numbers: Numbers, settings: Settings) -> Defined
-    ensures { DefineOwes text.now lists numbers settings result }
+// Checks 1 to 9: main lists first, slow ones next, then the interval.
+#[tactic(auto, using(crate::proofs::Chain::steps), unfolding(crate::specs::Defined::judged, crate::specs::Defined::fields_of))]
+fn judge(
+    text: &[u8],
+    lists: Lists,
+    numbers: Numbers,
+    settings: Settings,
+) -> Result<Definition, Refusal>
+    ensures finding { found result ≡ judged text.now lists numbers settings }
+    ensures fields { IfOk result (λ d. d ≡ fields_of text.now lists numbers settings) }
 {
-    let main_lists = lists.main;
-    let slow_lists = lists.slow;
-    let main = main_lists::judge(text, main_lists, numbers);
-    let slow = slow_lists::judge(text, slow_lists, numbers);
-    let main_verdict = main.verdict;
-    let slow_verdict = slow.verdict;
-    let main_fields = main.fields;
-    let slow_fields = slow.fields;
-    let finished = Definition {
-        main: main_fields,
-        slow: slow_fields,
+    let main = main_lists::judge(text, lists.main, numbers)?;
+    let slow = slow_lists::judge(text, lists.slow, numbers)?;
+    let definition = Definition {
+        main,
+        slow,
         numbers,
         settings,
     };
-    let last = checks::other_interval(finished);
-    let verdict = checks::first(main_verdict, checks::first(slow_verdict, last));
-    match verdict {
-        Verdict::Pass => Defined {
-            verdict: Verdict::Pass,
-            definition: finished,
+    checks::other_interval(definition)?;
+    Ok(definition)
+}
+
+// The definition that the lists of a text give, or the refusal.
+#[tactic(auto, unfolding(crate::specs::Defined::defined, crate::specs::Defined::definition_of))]
+pub fn define(text: &[u8], lists: Lists, numbers: Numbers, settings: Settings) -> Defined
+    ensures { DefineOwes text.now lists numbers settings result }
+{
+    match judge(text, lists, numbers, settings) {
+        Ok(definition) => Defined {
+            verdict: Ok(()),
+            definition,
         },
-        Verdict::Refused(refusal) => {
-            let nothing = Definition::nothing();
-            Defined {
-                verdict: Verdict::Refused(refusal),
-                definition: nothing,
-            }
-        }
+        Err(refusal) => Defined {
+            verdict: Err(refusal),
+            definition: Definition::nothing(),
+        },
     }
 }
 
@@ -133,9 +125,9 @@ pub fn define_plainly(text: &[u8], lists: Lists) -> Defined
     ensures { DefineOwes text.now lists no_numbers plain result }
 {
     let numbers = Numbers {
-        min_throttle: HeaderNumber::Absent,
-        vbat_reference: HeaderNumber::Absent,
-        min_motor: HeaderNumber::Absent,
+        min_throttle: None,
+        vbat_reference: None,
+        min_motor: None,
     };
     define(text, lists, numbers, Settings::plain())
 }

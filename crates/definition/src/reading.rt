@@ -1,5 +1,5 @@
 // Lists read into rows, and rows cut to the fields of a definition.
-ghost use Rattle.std.specs.Prelude.{◌≡◌, ◌<◌, ◌≤◌, min, get_or};
+ghost use Rattle.std.specs.Prelude.{◌≡◌, ◌+◌, ◌<◌, ◌≤◌, get_or};
 ghost use Rattle.items.specs.Items.{items, part};
 ghost use Rattle.items.specs.Rows.{row_of};
 ghost use Rattle.definition.specs.Defined.{main_items};
@@ -9,13 +9,7 @@ ghost use Rattle.definition.specs.Rows.{rows_of, cut_to, ForMain};
 use crate::Rows;
 use items::{MainLists, Of, Row, Stretch};
 
-fn lesser(a: usize, b: usize) -> usize
-    ensures { result ≡ min a b }
-{
-    if a < b { a } else { b }
-}
-
-fn read(text: &[u8], list: Stretch, of: Of) -> Row
+fn read(text: &[u8], list: Option<Stretch>, of: Of) -> Row
     ensures { result ≡ row_of of (items (part text.now list)) }
 {
     items::read_row(items::part(text, list), of)
@@ -24,19 +18,13 @@ fn read(text: &[u8], list: Stretch, of: Of) -> Row
 pub(crate) fn read_all(text: &[u8], lists: MainLists) -> Rows
     ensures { result ≡ rows_of (main_items text.now lists) }
 {
-    let names = lists.names;
-    let intra_predictors = lists.intra_predictors;
-    let inter_predictors = lists.inter_predictors;
-    let intra_encodings = lists.intra_encodings;
-    let inter_encodings = lists.inter_encodings;
-    let signs = lists.signs;
     Rows {
-        names: read(text, names, Of::Names),
-        intra_predictors: read(text, intra_predictors, Of::Predictors),
-        inter_predictors: read(text, inter_predictors, Of::Predictors),
-        intra_encodings: read(text, intra_encodings, Of::Encodings),
-        inter_encodings: read(text, inter_encodings, Of::Encodings),
-        signs: read(text, signs, Of::Signs),
+        names: read(text, lists.names, Of::Names),
+        intra_predictors: read(text, lists.intra_predictors, Of::Predictors),
+        inter_predictors: read(text, lists.inter_predictors, Of::Predictors),
+        intra_encodings: read(text, lists.intra_encodings, Of::Encodings),
+        inter_encodings: read(text, lists.inter_encodings, Of::Encodings),
+        signs: read(text, lists.signs, Of::Signs),
     }
 }
 
@@ -44,49 +32,23 @@ pub(crate) fn read_all(text: &[u8], lists: MainLists) -> Rows
 pub(crate) fn smallest(rows: Rows) -> usize
     ensures { ForMain rows (λ l. result ≡ rounds l) }
 {
-    let encodings = lesser(
-        rows.intra_encodings.count,
-        lesser(rows.inter_encodings.count, rows.signs.count),
-    );
-    let predictors = lesser(
-        rows.intra_predictors.count,
-        lesser(rows.inter_predictors.count, encodings),
-    );
-    lesser(rows.names.count, predictors)
+    rows.names
+        .count
+        .min(rows.intra_predictors.count)
+        .min(rows.inter_predictors.count)
+        .min(rows.intra_encodings.count)
+        .min(rows.inter_encodings.count)
+        .min(rows.signs.count)
 }
 
-// What item `k` of a list says.
-pub(crate) fn code_at(row: Row, k: usize) -> u8
-    requires { k < 64 }
-    ensures { result ≡ get_or row.codes k 0 }
+// The fields of a definition: what the items of a list say, from item `from` on and up to item n, and 0 behind.
+pub(crate) fn cut_to<const N: usize>(row: Row, from: usize, n: usize) -> [u8; N]
+    requires items { n ≤ 64 }
+    requires rooms { n ≤ from + N }
+    ensures { result ≡ cut_to from N n row }
 {
-    row.codes[k]
-}
-
-// The fields of a main definition: what the items from the third on say, up to item n.
-pub(crate) fn behind_time(row: Row, n: usize) -> [u8; 62]
-    requires { n ≤ 64 }
-    ensures { result ≡ cut_to 2 62 n row }
-{
-    let mut fields = [0u8; 62];
-    let mut k: usize = 2;
-    while k < n {
-        fields[k - 2] = row.codes[k];
-        k += 1;
-    }
-    fields
-}
-
-// The fields of a slow definition: what the items say, up to item n.
-pub(crate) fn from_the_first(row: Row, n: usize) -> [u8; 16]
-    requires { n ≤ 16 }
-    ensures { result ≡ cut_to 0 16 n row }
-{
-    let mut fields = [0u8; 16];
-    let mut k: usize = 0;
-    while k < n {
-        fields[k] = row.codes[k];
-        k += 1;
-    }
+    let mut fields = [0u8; N];
+    let codes = &row.codes[from.min(n)..n];
+    fields[..codes.len()].copy_from_slice(codes);
     fields
 }

@@ -16,15 +16,15 @@ returns c l e =
       n = c.args.n;
       motor = c.motor_0.ensures l.names (ap (λ (r : Rows). r.names) e) j;
       intra_predictors =
-          (c.behind_time.ensures
+          (c.cut_to.ensures
           ∙ laid_fields 2 62 Predictors l.intra_predictors (ap (λ (r : Rows). r.intra_predictors) e) (search rules)) j;
       inter_predictors =
-          (c.behind_time-2.ensures
+          (c.cut_to-2.ensures
           ∙ laid_fields 2 62 Predictors l.inter_predictors (ap (λ (r : Rows). r.inter_predictors) e) (search rules)) j;
       intra_encodings =
-          (c.behind_time-3.ensures
+          (c.cut_to-3.ensures
           ∙ laid_fields 2 62 Encodings l.intra_encodings (ap (λ (r : Rows). r.intra_encodings) e) (search rules)) j;
       inter_encodings =
-          (c.behind_time-4.ensures ∙ laid_fields 2 62 Encodings l.inter_encodings (ap (λ (r : Rows). r.inter_encodings) e) (search rules)) j;
-      signs = (c.behind_time-5.ensures ∙ laid_fields 2 62 Signs l.signs (ap (λ (r : Rows). r.signs) e) (search rules)) j;
+          (c.cut_to-4.ensures ∙ laid_fields 2 62 Encodings l.inter_encodings (ap (λ (r : Rows). r.inter_encodings) e) (search rules)) j;
+      signs = (c.cut_to-5.ensures ∙ laid_fields 2 62 Signs l.signs (ap (λ (r : Rows). r.signs) e) (search rules)) j;
     }

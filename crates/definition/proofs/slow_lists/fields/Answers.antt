@@ -16,8 +16,8 @@ returns c =
     record {
       n = c.args.n;
       predictors =
-          (c.from_the_first.ensures
+          (c.cut_to.ensures
           ∙ laid_fields 0 16 Predictors l.predictors (ap (λ (r : Rows). r.intra_predictors) e) (omega arith)) i;
-      encodings = (c.from_the_first-2.ensures ∙ laid_fields 0 16 Encodings l.encodings (ap (λ (r : Rows). r.intra_encodings) e) (omega arith)) i;
-      signs = (c.from_the_first-3.ensures ∙ laid_fields 0 16 Signs l.signs (ap (λ (r : Rows). r.signs) e) (omega arith)) i;
+      encodings = (c.cut_to-2.ensures ∙ laid_fields 0 16 Encodings l.encodings (ap (λ (r : Rows). r.intra_encodings) e) (omega arith)) i;
+      signs = (c.cut_to-3.ensures ∙ laid_fields 0 16 Signs l.signs (ap (λ (r : Rows). r.signs) e) (omega arith)) i;
     }
