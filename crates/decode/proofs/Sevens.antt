@@ -7,8 +7,9 @@ use native.Mathlib.Omega.{arith}
 use lib.ListN.{length, get_or, drop, drop_of_length-le}
 use lib.Seq.{drop-cons}
 use borrow.Author.Tests.{le-ltb, lt-ltb, le-leb, lt-leb}
+use Rattle.std.specs.Prelude.{Ok, Err}
 use Rattle.reader.specs.declared.Cursor.{Cursor}
-use Rattle.reader.specs.declared.Read.TheVariants.{Num, Cut, Corrupt}
+use Rattle.reader.specs.declared.Fault.TheVariants.{Cut, Corrupt}
 use Rattle.reader.specs.Got.{one, Got, got, cut, corrupt, over, after, onward, ◌>>=◌, give, fault, byte}
 use Rattle.reader.specs.Place.{rest, read_at}
 use Rattle.reader.proofs.Reading.{onward_give, over_over, over_after, read_after}
@@ -87,22 +88,22 @@ module _ {s : List ℕ} {c : Cursor} {f : ℕ → ℕ} {p : ℕ} where
             ∙ ap (read_at (record { at = p + 1 })) (over_over (before (get_or s p 0)) f (sevens n (drop (p + 1) s)));
       }
 
-  pub ended : {n : ℕ} → Come s c n f p → length s ≤ p → Cut ≡ read_at c (encoding1 (rest c s))
+  pub ended : {n : ℕ} → Come s c n f p → length s ≤ p → Err Cut ≡ read_at c (encoding1 (rest c s))
   unfolding read_at over
   ended {n} come h = sym (come.is ∙ rw (end n s p h))
 
-  answered : {n v w : ℕ} → Come s c n f p → sevens n (drop p s) ≡ got v one → w ≡ f v → Num w (record { at = p + 1 }) ≡ read_at c (encoding1 (rest c s))
+  answered : {n v w : ℕ} → Come s c n f p → sevens n (drop p s) ≡ got v one → w ≡ f v → Ok (w, record { at = p + 1 }) ≡ read_at c (encoding1 (rest c s))
   unfolding read_at over
   answered come g e = sym (come.is ∙ rw (g, e))
 
   pub number : {n w : ℕ} → Come s c (suc n) f p → (p < length s) × (get_or s p 0 < 128) → w ≡ f (get_or s p 0)
-      → Num w (record { at = p + 1 }) ≡ read_at c (encoding1 (rest c s))
+      → Ok (w, record { at = p + 1 }) ≡ read_at c (encoding1 (rest c s))
   number {n} come h e = answered come (done n s p h.0 h.1) e
 
   pub fifth : {w : ℕ} → Come s c 0 f p → (p < length s) × (get_or s p 0 ≤ 15) → w ≡ f (get_or s p 0)
-      → Num w (record { at = p + 1 }) ≡ read_at c (encoding1 (rest c s))
+      → Ok (w, record { at = p + 1 }) ≡ read_at c (encoding1 (rest c s))
   fifth come h e = answered come (last s p h.0 h.1) e
 
-  pub too_high : Come s c 0 f p → (p < length s) × (15 < get_or s p 0) → Corrupt ≡ read_at c (encoding1 (rest c s))
+  pub too_high : Come s c 0 f p → (p < length s) × (15 < get_or s p 0) → Err Corrupt ≡ read_at c (encoding1 (rest c s))
   unfolding read_at over
   too_high come h = sym (come.is ∙ rw (high s p h.0 h.1))

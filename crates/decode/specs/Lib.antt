@@ -1,3 +1,4 @@
 pub mod Variable
 pub mod TaggedVariable
+pub mod Whole
 pub mod Owes

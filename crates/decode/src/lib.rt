@@ -2,24 +2,18 @@
 // As in the Rust, a reader takes a place and answers the value with the place behind it.
 #![tactic(auto)]
 
-ghost use Rattle.std.specs.Prelude.{◌≡◌, ◌<◌};
+ghost use Rattle.std.specs.Prelude.{◌≡◌};
 ghost use Rattle.decode.specs.Owes.{NullOwes};
 
-use reader::{Cursor, Read};
+use reader::{Cursor, Fault};
 
 pub mod negative_14_bit;
 pub mod tagged_variable;
 pub mod variable;
 
-fn wide(b: u8) -> u32
-    ensures { (result ≡ b) × (result < 256) }
-{
-    b as u32
-}
-
 // Encoding 9.
-pub fn null(from: Cursor) -> Read
+pub fn null(from: Cursor) -> Result<(u32, Cursor), Fault>
     ensures { NullOwes from result }
 {
-    Read::Num(0, from)
+    Ok((0, from))
 }

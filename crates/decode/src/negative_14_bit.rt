@@ -4,7 +4,7 @@ ghost use Rattle.bits.specs.Pattern.{pattern, signed};
 ghost use Rattle.decode.specs.Owes.{Negative14BitOwes};
 
 use crate::variable::variable;
-use reader::{Cursor, Read};
+use reader::{Cursor, Fault};
 
 // The low 14 bits as a signed number, negated.
 fn minus_low_14(n: u32) -> u32
@@ -21,13 +21,9 @@ fn minus_low_14(n: u32) -> u32
     }
 }
 
-pub fn negative_14_bit(s: &[u8], from: Cursor) -> Read
+pub fn negative_14_bit(s: &[u8], from: Cursor) -> Result<(u32, Cursor), Fault>
     ensures { Negative14BitOwes s.now from result }
 {
-    let n = variable(s, from);
-    match n {
-        Read::Num(v, next) => Read::Num(minus_low_14(v), next),
-        Read::Cut => Read::Cut,
-        Read::Corrupt => Read::Corrupt,
-    }
+    let (n, next) = variable(s, from)?;
+    Ok((minus_low_14(n), next))
 }

@@ -1,125 +1,90 @@
 // Encoding 6: a head whose bits mark the numbers that follow, as many as it has ones.
-ghost use Rattle.std.specs.Prelude.{map, ◌≡◌, ◌<◌, ◌≤◌, ◌^◌};
+ghost use Rattle.std.specs.Prelude.{map, ◌≡◌, ◌≤◌, ◌^◌};
 ghost use Rattle.bits.specs.Pattern.{pattern};
 ghost use Rattle.reader.specs.Got.{over};
 ghost use Rattle.reader.specs.Place.{rest, read_at, group_at};
 ghost use Rattle.decode.specs.Owes.{TaggedVariableOwes};
-ghost use Rattle.decode.specs.TaggedVariable.{marked, fields, headed, alone};
+ghost use Rattle.decode.specs.TaggedVariable.{marked, fields, headed, alone, encoding6};
+ghost use Rattle.decode.specs.Whole.{whole};
 
 use crate::variable::variable_signed;
-use crate::wide;
-use reader::{Byte, Cursor, Group, Read, Step};
+use reader::{Cursor, Fault, Group};
 
 // A field, by its bit in the head: a number where it is set; where it is clear 0, and no byte.
-fn marked_field(s: &[u8], from: Cursor, bit: u8) -> Read
+fn marked_field(s: &[u8], from: Cursor, bit: u8) -> Result<(u32, Cursor), Fault>
     ensures { result ≡ read_at from (over pattern (marked bit (rest from s.now))) }
 {
     if bit == 0 {
-        return Read::Num(0, from);
+        return Ok((0, from));
     }
     variable_signed(s, from)
 }
 
-// The fields behind a head. As many numbers are read as it has ones; the fields behind the last of them are 0.
-fn marked_fields(s: &[u8], from: Cursor, n: usize, head: u8) -> Group
-    requires { (n ≤ 8) × (head < 2 ^ n) }
-    ensures { result ≡ group_at from (over (map pattern) (fields n head (rest from s.now))) }
+// The fields behind a head. As many numbers are read as it has ones among the n.
+fn marked_fields(s: &[u8], from: Cursor, n: usize, head: u8) -> Result<Group, Fault>
+    requires { n ≤ 8 }
+    ensures { whole result ≡ group_at from (over (map pattern) (fields n head (rest from s.now))) }
 {
     let mut values = [0u32; 8];
     let mut next = from;
     let mut bits = head;
-    let mut left = u8::count_ones(head);
-    let mut i = 0;
-    while 0 < left {
-        let bit = bits % 2;
-        let field = marked_field(s, next, bit);
-        match field {
-            Read::Num(v, behind) => {
-                values[i] = v;
-                next = behind;
-            }
-            Read::Cut => {
-                return Group::stopped(Step::Cut);
-            }
-            Read::Corrupt => {
-                return Group::stopped(Step::Corrupt);
-            }
-        }
-        left -= wide(bit);
-        bits = bits / 2;
-        i += 1;
+    for i in 0..n {
+        let (v, behind) = marked_field(s, next, bits % 2)?;
+        values[i] = v;
+        next = behind;
+        bits /= 2;
     }
-    Group {
-        step: Step::Next(next),
+    Ok(Group {
+        step: Ok(next),
         values,
-    }
+    })
 }
 
-// 2 ^ n.
 fn limit(n: usize) -> u32
     requires { n ≤ 8 }
     ensures { result ≡ 2 ^ n }
 {
-    if n < 4 {
-        match n {
-            0 => 1,
-            1 => 2,
-            2 => 4,
-            _ => 8,
-        }
-    } else {
-        match n {
-            4 => 16,
-            5 => 32,
-            6 => 64,
-            7 => 128,
-            _ => 256,
-        }
-    }
+    1 << n
 }
 
-fn headed_group(s: &[u8], from: Cursor, n: usize) -> Group
+fn headed_group(s: &[u8], from: Cursor, n: usize) -> Result<Group, Fault>
     requires { n ≤ 8 }
-    ensures { result ≡ group_at from (over (map pattern) (headed n (rest from s.now))) }
+    ensures { whole result ≡ group_at from (over (map pattern) (headed n (rest from s.now))) }
 {
-    let first = reader::read_u8(s, from);
-    match first {
-        Byte::Here(head, next) => {
-            if limit(n) <= wide(head) {
-                return Group::stopped(Step::Corrupt);
-            }
-            marked_fields(s, next, n, head)
-        }
-        Byte::End => Group::stopped(Step::Cut),
+    let (head, next) = reader::read_u8(s, from).ok_or(Fault::Cut)?;
+    if limit(n) <= u32::from(head) {
+        return Err(Fault::Corrupt);
+    }
+    marked_fields(s, next, n, head)
+}
+
+fn lone_field(s: &[u8], from: Cursor) -> Result<Group, Fault>
+    ensures { whole result ≡ group_at from (over (map pattern) (alone (rest from s.now))) }
+{
+    let (v, next) = variable_signed(s, from)?;
+    Ok(Group {
+        step: Ok(next),
+        values: [v, 0, 0, 0, 0, 0, 0, 0],
+    })
+}
+
+// No group has none or more than eight: it is corrupt, and no byte is read.
+fn sized_group(s: &[u8], from: Cursor, n: usize) -> Result<Group, Fault>
+    ensures { whole result ≡ group_at from (over (map pattern) (encoding6 n (rest from s.now))) }
+{
+    match n {
+        1 => lone_field(s, from),
+        2..=8 => headed_group(s, from, n),
+        _ => Err(Fault::Corrupt),
     }
 }
 
-fn lone_field(s: &[u8], from: Cursor) -> Group
-    ensures { result ≡ group_at from (over (map pattern) (alone (rest from s.now))) }
-{
-    let field = variable_signed(s, from);
-    match field {
-        Read::Num(v, next) => Group {
-            step: Step::Next(next),
-            values: [v, 0, 0, 0, 0, 0, 0, 0],
-        },
-        Read::Cut => Group::stopped(Step::Cut),
-        Read::Corrupt => Group::stopped(Step::Corrupt),
-    }
-}
-
-// Encoding 6, a group of n fields. No group has none or more than eight: it is corrupt, and no byte is read.
+// Encoding 6, a group of n fields.
 pub fn tagged_variable(s: &[u8], from: Cursor, n: usize) -> Group
     ensures { TaggedVariableOwes s.now from n result }
 {
-    if n == 0 {
-        return Group::stopped(Step::Corrupt);
+    match sized_group(s, from, n) {
+        Ok(group) => group,
+        Err(fault) => Group::stopped(Err(fault)),
     }
-    if n == 1 {
-        return lone_field(s, from);
-    }
-    if n <= 8 {
-        return headed_group(s, from, n);
-    }
-    Group::stopped(Step::Corrupt)
 }

@@ -5,57 +5,56 @@ ghost use Rattle.bits.specs.Pattern.{pattern};
 ghost use Rattle.decode.specs.Variable.{zigzag};
 ghost use Rattle.decode.specs.Owes.{VariableOwes, VariableSignedOwes};
 
-use crate::wide;
-use reader::{Cursor, Read};
+use reader::{Cursor, Fault};
 
 // Encoding 1.
-pub fn variable(s: &[u8], from: Cursor) -> Read
+pub fn variable(s: &[u8], from: Cursor) -> Result<(u32, Cursor), Fault>
     ensures { VariableOwes s.now from result }
 {
     let at = from.at;
     if s.len() <= at {
-        return Read::Cut;
+        return Err(Fault::Cut);
     }
-    let a = wide(s[at]);
+    let a = u32::from(s[at]);
     let p = at + 1;
     if a < 128 {
-        return Read::Num(a, Cursor { at: p });
+        return Ok((a, Cursor { at: p }));
     }
     if s.len() <= p {
-        return Read::Cut;
+        return Err(Fault::Cut);
     }
-    let b = wide(s[p]);
+    let b = u32::from(s[p]);
     let ab = 128 * b + (a - 128);
     let q = p + 1;
     if b < 128 {
-        return Read::Num(ab, Cursor { at: q });
+        return Ok((ab, Cursor { at: q }));
     }
     if s.len() <= q {
-        return Read::Cut;
+        return Err(Fault::Cut);
     }
-    let c = wide(s[q]);
+    let c = u32::from(s[q]);
     let abc = 16384 * c + (ab - 16384);
     let r = q + 1;
     if c < 128 {
-        return Read::Num(abc, Cursor { at: r });
+        return Ok((abc, Cursor { at: r }));
     }
     if s.len() <= r {
-        return Read::Cut;
+        return Err(Fault::Cut);
     }
-    let d = wide(s[r]);
+    let d = u32::from(s[r]);
     let abcd = 2097152 * d + (abc - 2097152);
     let t = r + 1;
     if d < 128 {
-        return Read::Num(abcd, Cursor { at: t });
+        return Ok((abcd, Cursor { at: t }));
     }
     if s.len() <= t {
-        return Read::Cut;
+        return Err(Fault::Cut);
     }
-    let e = wide(s[t]);
+    let e = u32::from(s[t]);
     if e <= 15 {
-        return Read::Num(268435456 * e + (abcd - 268435456), Cursor { at: t + 1 });
+        return Ok((268435456 * e + (abcd - 268435456), Cursor { at: t + 1 }));
     }
-    Read::Corrupt
+    Err(Fault::Corrupt)
 }
 
 // 2k is k and 2k + 1 is -k-1.
@@ -70,13 +69,9 @@ fn zig_zag_decode(n: u32) -> u32
 }
 
 // Encoding 0.
-pub fn variable_signed(s: &[u8], from: Cursor) -> Read
+pub fn variable_signed(s: &[u8], from: Cursor) -> Result<(u32, Cursor), Fault>
     ensures { VariableSignedOwes s.now from result }
 {
-    let n = variable(s, from);
-    match n {
-        Read::Num(v, next) => Read::Num(zig_zag_decode(v), next),
-        Read::Cut => Read::Cut,
-        Read::Corrupt => Read::Corrupt,
-    }
+    let (n, next) = variable(s, from)?;
+    Ok((zig_zag_decode(n), next))
 }

@@ -4,13 +4,12 @@
 
 ghost use Rattle.std.specs.Prelude.{◌≡◌};
 ghost use Rattle.reader.specs.Got.{give};
-ghost use Rattle.reader.specs.Place.{rest};
-ghost use Rattle.event.specs.Events.{with_second, one_number, two_numbers, spelled, closing};
+ghost use Rattle.reader.specs.Place.{rest, read_at};
+ghost use Rattle.event.specs.Events.{one_number, two_numbers, spelled, closing};
 ghost use Rattle.event.specs.Owes.{ReadOwes};
-ghost use Rattle.event.specs.Place.{event_at};
 
 use decode::variable::variable;
-use reader::{Byte, Cursor, Read};
+use reader::{Cursor, Fault};
 
 // The type of an event and its two numbers, absent ones as 0.
 #[derive(Clone, Copy)]
@@ -20,88 +19,52 @@ pub struct Event {
     pub second: u32,
 }
 
-// An event and the place behind it; the data ended inside; or the bytes are no event.
-#[derive(Clone, Copy)]
-pub enum Reading {
-    Told(Event, Cursor),
-    Cut,
-    Corrupt,
+fn one_number(s: &[u8], from: Cursor, code: u8) -> Result<(Event, Cursor), Fault>
+    ensures { result ≡ read_at from (one_number code (rest from s.now)) }
+{
+    let (first, behind) = variable(s, from)?;
+    Ok((
+        Event {
+            code,
+            first,
+            second: 0,
+        },
+        behind,
+    ))
 }
 
-fn one_number(s: &[u8], from: Cursor, code: u8) -> Reading
-    ensures { result ≡ event_at from (one_number code (rest from s.now)) }
+fn two_numbers(s: &[u8], from: Cursor, code: u8) -> Result<(Event, Cursor), Fault>
+    ensures { result ≡ read_at from (two_numbers code (rest from s.now)) }
 {
-    let number = variable(s, from);
-    match number {
-        Read::Num(first, behind) => Reading::Told(
-            Event {
-                code,
-                first,
-                second: 0,
-            },
-            behind,
-        ),
-        Read::Cut => Reading::Cut,
-        Read::Corrupt => Reading::Corrupt,
-    }
-}
-
-// The second number, behind the first.
-fn with_second(s: &[u8], from: Cursor, code: u8, first: u32) -> Reading
-    ensures { result ≡ event_at from (with_second code first (rest from s.now)) }
-{
-    let number = variable(s, from);
-    match number {
-        Read::Num(second, behind) => Reading::Told(
-            Event {
-                code,
-                first,
-                second,
-            },
-            behind,
-        ),
-        Read::Cut => Reading::Cut,
-        Read::Corrupt => Reading::Corrupt,
-    }
-}
-
-fn two_numbers(s: &[u8], from: Cursor, code: u8) -> Reading
-    ensures { result ≡ event_at from (two_numbers code (rest from s.now)) }
-{
-    let number = variable(s, from);
-    match number {
-        Read::Num(first, behind) => with_second(s, behind, code, first),
-        Read::Cut => Reading::Cut,
-        Read::Corrupt => Reading::Corrupt,
-    }
+    let (first, next) = variable(s, from)?;
+    let (second, behind) = variable(s, next)?;
+    Ok((
+        Event {
+            code,
+            first,
+            second,
+        },
+        behind,
+    ))
 }
 
 // An event that is told by a text alone.
-fn spelt(text: &[u8], s: &[u8], from: Cursor, event: Event) -> Reading
-    ensures { result ≡ event_at from (spelled text.now (give event) (rest from s.now)) }
+fn spelt(text: &[u8], s: &[u8], from: Cursor, event: Event) -> Result<(Event, Cursor), Fault>
+    ensures { result ≡ read_at from (spelled text.now (give event) (rest from s.now)) }
 {
     let mut at = from;
-    let mut i = 0;
-    while i < text.len() {
-        let byte = reader::read_u8(s, at);
-        match byte {
-            Byte::Here(b, behind) => {
-                if b != text[i] {
-                    return Reading::Corrupt;
-                }
-                at = behind;
-                i += 1;
-            }
-            Byte::End => {
-                return Reading::Cut;
-            }
+    for letter in text {
+        let (b, behind) = reader::read_u8(s, at).ok_or(Fault::Cut)?;
+        if b != *letter {
+            return Err(Fault::Corrupt);
         }
+        at = behind;
     }
-    Reading::Told(event, at)
+    Ok((event, at))
 }
 
-fn close(s: &[u8], from: Cursor) -> Reading
-    ensures { result ≡ event_at from (closing (rest from s.now)) }
+fn close(s: &[u8], from: Cursor) -> Result<(Event, Cursor), Fault>
+    ensures { result ≡ read_at from (closing (rest from s.now)) }
 {
     let end = Event {
         code: 255,
@@ -112,19 +75,16 @@ fn close(s: &[u8], from: Cursor) -> Reading
 }
 
 // The event behind a letter E: its type decides.
-pub fn read(s: &[u8], from: Cursor) -> Reading
+pub fn read(s: &[u8], from: Cursor) -> Result<(Event, Cursor), Fault>
     ensures { ReadOwes s.now from result }
 {
-    let kind = reader::read_u8(s, from);
-    match kind {
-        Byte::Here(code, behind) => match code {
-            0 => one_number(s, behind, code),
-            14 => two_numbers(s, behind, code),
-            15 => one_number(s, behind, code),
-            30 => two_numbers(s, behind, code),
-            255 => close(s, behind),
-            _ => Reading::Corrupt,
-        },
-        Byte::End => Reading::Cut,
+    let (code, behind) = reader::read_u8(s, from).ok_or(Fault::Cut)?;
+    match code {
+        0 => one_number(s, behind, code),
+        14 => two_numbers(s, behind, code),
+        15 => one_number(s, behind, code),
+        30 => two_numbers(s, behind, code),
+        255 => close(s, behind),
+        _ => Err(Fault::Corrupt),
     }
 }

@@ -1,23 +1,26 @@
--- What the code answers for a reading at a place: fixed content, all zeros, where there is none.
-use Rattle.std.specs.Prelude.{ℕ, List, []}
+-- What the code answers in lent rooms for a reading of a frame at a place: the numbers of the fields stand there, and zeros where there are none.
+use Rattle.std.specs.Prelude.{ℕ, List, [], Result, Ok, Err}
 use Rattle.reader.specs.declared.Cursor.{Cursor}
-use Rattle.reader.specs.declared.Step.{Step}
-use Rattle.reader.specs.declared.Step.TheVariants.{Next, Cut, Corrupt}
+use Rattle.reader.specs.declared.Fault.{Fault}
+use Rattle.reader.specs.declared.Fault.TheVariants.{Cut, Corrupt}
 use Rattle.reader.specs.Got.{Got, got, cut, corrupt}
-use Rattle.reader.specs.Place.{on}
+use Rattle.reader.specs.Place.{on, padded}
 use Rattle.raws.specs.declared.Front.{Front}
 use Rattle.raws.specs.declared.Raw.{Raw}
-use Rattle.raws.specs.declared.Reading.{Reading}
-use Rattle.raws.specs.Raws.{raw}
 
-unfoldable pub stopped_at : Step → Reading
-stopped_at t = record { step = t; raw = raw 0 0 [] }
+-- what is returned, and the numbers that then stand in the rooms
+pub record Lent : Type 0 where
+  pub front : Result Front Fault
+  pub fields : List ℕ
 
-unfoldable pub raw_at : Cursor → Got Raw → Reading
-raw_at c (got x u) = record { step = Next (on c u); raw = x }
-raw_at c cut = stopped_at Cut
-raw_at c corrupt = stopped_at Corrupt
+abbrev pub beside : Result Front Fault → (fields : List ℕ) → Lent
+beside r vs = record { front = r; fields = vs }
 
--- a reading whose fields' numbers stand beside it
-abbrev pub beside : Front → (fields : List ℕ) → Reading
-beside f vs = record { step = f.step; raw = record { iteration = f.iteration; time = f.time; fields = vs } }
+-- why there is no frame, and 62 zeros
+abbrev pub stopped : Fault → Lent
+stopped d = beside (Err d) (padded 62 [])
+
+unfoldable pub lent_at : Cursor → Got Raw → Lent
+lent_at c (got x u) = beside (Ok (record { behind = on c u; iteration = x.iteration; time = x.time })) x.fields
+lent_at c cut = stopped Cut
+lent_at c corrupt = stopped Corrupt

@@ -1,7 +1,6 @@
 -- What stands behind the kind byte of a main or slow frame: the raw numbers, as 32-bit patterns (document 01, "Predictors").
 -- A function of the encodings and of the bytes from there on: no predictor, no header number and no history has a part in it.
-use Rattle.std.specs.Prelude.{ℕ, List}
-use Rattle.std.proofs.Math.Option.{Option, none, some}
+use Rattle.std.specs.Prelude.{ℕ, List, Option, Some, None}
 use Rattle.reader.specs.Got.{Reader, ◌>>=◌, give, fault}
 use Rattle.reader.specs.Place.{padded}
 use Rattle.decode.specs.Variable.{encoding0, encoding1}
@@ -33,7 +32,7 @@ inter_raw es = do
 
 -- Slow: the fields alone. Without slow lists an S trial is corrupt at once.
 unfoldable pub slow_raw : Option (List ℕ) → Reader Raw
-slow_raw none = fault
-slow_raw (some es) = do
+slow_raw None = fault
+slow_raw (Some es) = do
   vs ← numbers es
   give (raw 0 0 vs)

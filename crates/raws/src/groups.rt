@@ -3,17 +3,17 @@
 ghost use Rattle.std.specs.Prelude.{◌≡◌, ◌<◌, ◌≤◌, length, take, drop};
 ghost use Rattle.reader.specs.Got.{over};
 ghost use Rattle.reader.specs.Place.{rest, read_at, group_at};
-ghost use Rattle.raws.specs.Chunks.{first_run, single};
+ghost use Rattle.raws.specs.Chunks.{first_run, single, settled};
 ghost use Rattle.raws.specs.Groups.{size, runs, numbers};
 ghost use Rattle.raws.specs.Groups as Groups;
-ghost use Rattle.raws.specs.Place.{beside, raw_at};
+ghost use Rattle.raws.specs.Place.{lent_at};
 ghost use Rattle.raws.specs.Raws.{raw};
 
-use crate::{Front, empty, stop};
+use crate::{Front, clear};
 use decode::negative_14_bit::negative_14_bit;
 use decode::tagged_variable::tagged_variable;
 use decode::variable::{variable, variable_signed};
-use reader::{Cursor, Group, Read, Step};
+use reader::{Cursor, Fault, Group};
 use tagged::tagged_16::tagged_16;
 use tagged::tagged_32::tagged_32;
 
@@ -35,8 +35,7 @@ fn chunk(encodings: &[u8], i: usize) -> usize
 {
     let encoding = encodings[i];
     let most = max_chunk_size(encoding);
-    let mut n = 1;
-    while n < most {
+    for n in 1..most {
         let next = i + n;
         if encodings.len() <= next {
             return n;
@@ -44,13 +43,12 @@ fn chunk(encodings: &[u8], i: usize) -> usize
         if encodings[next] != encoding {
             return n;
         }
-        n += 1;
     }
-    n
+    most
 }
 
 // A number by itself. What is no encoding is corrupt.
-fn number(encoding: u8, s: &[u8], from: Cursor) -> Read
+fn number(encoding: u8, s: &[u8], from: Cursor) -> Result<(u32, Cursor), Fault>
     ensures { result ≡ read_at from (single encoding (rest from s.now)) }
 {
     match encoding {
@@ -58,7 +56,7 @@ fn number(encoding: u8, s: &[u8], from: Cursor) -> Read
         1 => variable(s, from),
         3 => negative_14_bit(s, from),
         9 => decode::null(from),
-        _ => Read::Corrupt,
+        _ => Err(Fault::Corrupt),
     }
 }
 
@@ -80,62 +78,47 @@ fn lay(out: &mut [u32], numbers: [u32; 8])
     requires { length out.old ≤ 8 }
     ensures { out.new ≡ take (length out.old) numbers }
 {
-    let mut i = 0;
-    while i < 8 {
+    for i in 0..8 {
         if i < out.len() {
             out[i] = numbers[i];
         }
-        i += 1;
     }
 }
 
-// The numbers of the fields into lent rooms, behind the two that stand before them.
+// The numbers of the fields into lent rooms, behind the two that stand before them. A turn takes as many fields as a group has: no `for`.
 pub(crate) fn read_into(
     encodings: &[u8],
     s: &[u8],
     from: Cursor,
     iteration: u32,
     time: u32,
-    out: &mut [u32],
-) -> Front
-    requires { (length encodings.now ≤ 62) × (length out.old ≡ 62) }
-    ensures { beside result out.new ≡ raw_at from (over (raw iteration time) (numbers encodings.now (rest from s.now))) }
+    out: &mut [u32; 62],
+) -> Result<Front, Fault>
+    requires { length encodings.now ≤ 62 }
+    ensures { settled result out.new ≡ lent_at from (over (raw iteration time) (numbers encodings.now (rest from s.now))) }
 {
-    empty(out);
+    clear(out);
     let mut next = from;
     let mut i = 0;
     while i < encodings.len() {
         let encoding = encodings[i];
         if max_chunk_size(encoding) == 1 {
-            let read = number(encoding, s, next);
-            match read {
-                Read::Num(v, behind) => {
-                    out[i] = v;
-                    next = behind;
-                }
-                Read::Cut => return stop(Step::Cut, out),
-                Read::Corrupt => return stop(Step::Corrupt, out),
-            }
+            let (v, behind) = number(encoding, s, next)?;
+            out[i] = v;
+            next = behind;
             i += 1;
         } else {
             let n = chunk(encodings, i);
             let read = group(encoding, n, s, next);
-            let step = read.step;
             let numbers = read.values;
-            match step {
-                Step::Next(behind) => {
-                    lay(&mut out[i..i + n], numbers);
-                    next = behind;
-                }
-                Step::Cut => return stop(Step::Cut, out),
-                Step::Corrupt => return stop(Step::Corrupt, out),
-            }
+            next = read.step?;
+            lay(&mut out[i..i + n], numbers);
             i += n;
         }
     }
-    Front {
-        step: Step::Next(next),
+    Ok(Front {
+        behind: next,
         iteration,
         time,
-    }
+    })
 }

@@ -2,18 +2,19 @@
 // The first half of the Rust's frame/mod.rs; predictors and histories have no part in it.
 #![tactic(auto)]
 
-ghost use Rattle.std.specs.Prelude.{◌≡◌, length, take, replicate};
+ghost use Rattle.std.specs.Prelude.{◌≡◌, ◌≤◌, length, take};
 ghost use Rattle.reader.specs.Got.{over};
-ghost use Rattle.reader.specs.Place.{rest};
+ghost use Rattle.reader.specs.Place.{rest, read_at};
+ghost use Rattle.raws.specs.Chunks.{settled, raw_of};
 ghost use Rattle.raws.specs.Groups.{numbers};
-ghost use Rattle.raws.specs.Owes.{ClearOwes, MainFieldsOwes, IntraIntoOwes, InterIntoOwes, SlowIntoOwes, IntraOwes, InterOwes, SlowOwes};
-ghost use Rattle.raws.specs.Place.{beside, raw_at, stopped_at};
-ghost use Rattle.raws.specs.Raws.{raw, timed};
+ghost use Rattle.raws.specs.Owes.{ClearOwes, MainFieldsOwes, IntraIntoOwes, InterIntoOwes, SlowIntoOwes, IntraOwes, InterOwes, SlowOwes, some_of};
+ghost use Rattle.raws.specs.Place.{beside, lent_at};
+ghost use Rattle.raws.specs.Raws.{raw, intra_raw, inter_raw, slow_raw};
 
 use crate::groups::read_into;
 use decode::variable::{variable, variable_signed};
 use plan::Definition;
-use reader::{Cursor, Read, Step};
+use reader::{Cursor, Fault};
 
 mod groups;
 
@@ -25,102 +26,103 @@ pub struct Raw {
     pub fields: [u32; 62],
 }
 
-// Where reading goes on, or why it does not: then every number is 0. The numbers stand beside it.
-#[derive(Clone, Copy)]
-pub struct Reading {
-    pub step: Step,
-    pub raw: Raw,
-}
-
-// A reading but for the numbers of the fields, which stand beside it in lent rooms.
+// What a frame's reading gives but for the numbers of its fields, which stand beside it in lent rooms.
 #[derive(Clone, Copy)]
 pub struct Front {
-    pub step: Step,
+    pub behind: Cursor,
     pub iteration: u32,
     pub time: u32,
 }
 
-// Every room becomes 0.
-fn empty(rooms: &mut [u32])
-    ensures { rooms.new ≡ replicate (length rooms.old) 0 }
-{
-    let mut i = 0;
-    while i < rooms.len() {
-        rooms[i] = 0;
-        i += 1;
-    }
-}
-
-// The same, of the rooms of a frame.
+// Every room of a frame becomes 0.
 pub fn clear(rooms: &mut [u32; 62])
     ensures { ClearOwes rooms.new }
 {
-    let all = &mut rooms[..];
-    empty(all);
+    rooms.fill(0);
 }
 
-// Why reading stopped, and no numbers.
-fn stop(step: Step, out: &mut [u32]) -> Front
-    requires { length out.old ≡ 62 }
-    ensures { beside result out.new ≡ stopped_at step }
+// A reading that stopped leaves no numbers in its rooms.
+fn or_emptied(front: Result<Front, Fault>, out: &mut [u32; 62]) -> Result<Front, Fault>
+    ensures { beside result out.new ≡ settled front out.old }
 {
-    empty(out);
-    Front {
-        step,
-        iteration: 0,
-        time: 0,
+    if front.is_err() {
+        clear(out);
     }
+    front
 }
 
 // A reading of what stands in two places.
-fn joined(front: Front, fields: [u32; 62]) -> Reading
-    ensures { result ≡ beside front fields }
+fn joined(front: Result<Front, Fault>, fields: [u32; 62]) -> Result<(Raw, Cursor), Fault>
+    ensures { result ≡ raw_of front fields }
 {
-    let step = front.step;
+    let front = front?;
     let raw = Raw {
         iteration: front.iteration,
         time: front.time,
         fields,
     };
-    Reading { step, raw }
+    Ok((raw, front.behind))
 }
 
-// The first n of 62 fields, behind the numbers before them; no frame has more.
+// The first n fields of as many as a frame can have, behind the numbers before them.
 fn fields_into(
     n: usize,
-    encodings: &[u8; 62],
+    encodings: &[u8],
     s: &[u8],
     from: Cursor,
     iteration: u32,
     time: u32,
     out: &mut [u32; 62],
-) -> Front
-    ensures { MainFieldsOwes n encodings.now s.now from iteration time (beside result out.new) }
+) -> Result<Front, Fault>
+    requires { length encodings.now ≤ 62 }
+    ensures { settled result out.new ≡ lent_at from (over (raw iteration time) (numbers (take n encodings.now) (rest from s.now))) }
 {
-    let all = &encodings[..];
-    if n < 62 {
-        return read_into(&all[..n], s, from, iteration, time, &mut out[..]);
-    }
-    read_into(all, s, from, iteration, time, &mut out[..])
+    let some = n.min(encodings.len());
+    read_into(&encodings[..some], s, from, iteration, time, out)
 }
 
-// The time and the fields of an intra frame, behind its iteration.
-fn time_into(
+// The frames, each with the first n of its fields. What the rooms hold where one stopped is not said.
+fn intra_front(
     n: usize,
     encodings: &[u8; 62],
     s: &[u8],
     from: Cursor,
-    iteration: u32,
     out: &mut [u32; 62],
-) -> Front
-    ensures { beside result out.new ≡ raw_at from (timed (take n encodings.now) iteration (rest from s.now)) }
+) -> Result<Front, Fault>
+    ensures { settled result out.new ≡ lent_at from (intra_raw (take n encodings.now) (rest from s.now)) }
 {
-    let time = variable(s, from);
-    match time {
-        Read::Num(t, next) => fields_into(n, encodings, s, next, iteration, t, out),
-        Read::Cut => stop(Step::Cut, &mut out[..]),
-        Read::Corrupt => stop(Step::Corrupt, &mut out[..]),
+    let (iteration, next) = variable(s, from)?;
+    let (time, behind) = variable(s, next)?;
+    fields_into(n, &encodings[..], s, behind, iteration, time, out)
+}
+
+fn inter_front(
+    n: usize,
+    encodings: &[u8; 62],
+    s: &[u8],
+    from: Cursor,
+    out: &mut [u32; 62],
+) -> Result<Front, Fault>
+    ensures { settled result out.new ≡ lent_at from (inter_raw (take n encodings.now) (rest from s.now)) }
+{
+    let (time, behind) = variable_signed(s, from)?;
+    fields_into(n, &encodings[..], s, behind, 0, time, out)
+}
+
+// No number stands before the fields of a slow frame; without slow lists it is corrupt at once.
+fn slow_front(
+    n: usize,
+    encodings: &[u8; 16],
+    s: &[u8],
+    from: Cursor,
+    out: &mut [u32; 62],
+) -> Result<Front, Fault>
+    ensures { settled result out.new ≡ lent_at from (slow_raw (some_of n encodings.now) (rest from s.now)) }
+{
+    if n == 0 {
+        return Err(Fault::Corrupt);
     }
+    fields_into(n, &encodings[..], s, from, 0, 0, out)
 }
 
 // An intra frame with the first n of 62 fields.
@@ -130,15 +132,11 @@ pub fn intra_into(
     s: &[u8],
     from: Cursor,
     out: &mut [u32; 62],
-) -> Front
+) -> Result<Front, Fault>
     ensures { IntraIntoOwes n encodings.now s.now from result out.new }
 {
-    let iteration = variable(s, from);
-    match iteration {
-        Read::Num(i, next) => time_into(n, encodings, s, next, i, out),
-        Read::Cut => stop(Step::Cut, &mut out[..]),
-        Read::Corrupt => stop(Step::Corrupt, &mut out[..]),
-    }
+    let front = intra_front(n, encodings, s, from, out);
+    or_emptied(front, out)
 }
 
 // An inter frame with the first n of 62 fields.
@@ -148,42 +146,25 @@ pub fn inter_into(
     s: &[u8],
     from: Cursor,
     out: &mut [u32; 62],
-) -> Front
+) -> Result<Front, Fault>
     ensures { InterIntoOwes n encodings.now s.now from result out.new }
 {
-    let offset = variable_signed(s, from);
-    match offset {
-        Read::Num(t, next) => fields_into(n, encodings, s, next, 0, t, out),
-        Read::Cut => stop(Step::Cut, &mut out[..]),
-        Read::Corrupt => stop(Step::Corrupt, &mut out[..]),
-    }
+    let front = inter_front(n, encodings, s, from, out);
+    or_emptied(front, out)
 }
 
-// The first n of 16 fields of a slow frame; no number stands before them.
-fn slow_fields(n: usize, encodings: &[u8; 16], s: &[u8], from: Cursor, out: &mut [u32; 62]) -> Front
-    ensures { beside result out.new ≡ raw_at from (over (raw 0 0) (numbers (take n encodings.now) (rest from s.now))) }
-{
-    let all = &encodings[..];
-    if n < 16 {
-        return read_into(&all[..n], s, from, 0, 0, &mut out[..]);
-    }
-    read_into(all, s, from, 0, 0, &mut out[..])
-}
-
-// A slow frame with the first n of 16 fields; without slow lists it is corrupt at once.
+// A slow frame with the first n of 16 fields.
 pub fn slow_into(
     n: usize,
     encodings: &[u8; 16],
     s: &[u8],
     from: Cursor,
     out: &mut [u32; 62],
-) -> Front
+) -> Result<Front, Fault>
     ensures { SlowIntoOwes n encodings.now s.now from result out.new }
 {
-    if n == 0 {
-        return stop(Step::Corrupt, &mut out[..]);
-    }
-    slow_fields(n, encodings, s, from, out)
+    let front = slow_front(n, encodings, s, from, out);
+    or_emptied(front, out)
 }
 
 // The fields alone, as a value.
@@ -194,41 +175,41 @@ pub fn main_fields(
     from: Cursor,
     iteration: u32,
     time: u32,
-) -> Reading
+) -> Result<(Raw, Cursor), Fault>
     ensures { MainFieldsOwes n encodings s.now from iteration time result }
 {
     let mut fields = [0u32; 62];
-    let front = fields_into(n, &encodings, s, from, iteration, time, &mut fields);
+    let front = fields_into(n, &encodings[..], s, from, iteration, time, &mut fields);
     joined(front, fields)
 }
 
 // The frames of a definition, as values.
-pub fn intra(d: Definition, s: &[u8], from: Cursor) -> Reading
+pub fn intra(d: Definition, s: &[u8], from: Cursor) -> Result<(Raw, Cursor), Fault>
     ensures { IntraOwes d s.now from result }
 {
     let main = d.main;
     let encodings = main.intra_encodings;
     let mut fields = [0u32; 62];
-    let front = intra_into(main.fields(), &encodings, s, from, &mut fields);
+    let front = intra_front(main.fields(), &encodings, s, from, &mut fields);
     joined(front, fields)
 }
 
-pub fn inter(d: Definition, s: &[u8], from: Cursor) -> Reading
+pub fn inter(d: Definition, s: &[u8], from: Cursor) -> Result<(Raw, Cursor), Fault>
     ensures { InterOwes d s.now from result }
 {
     let main = d.main;
     let encodings = main.inter_encodings;
     let mut fields = [0u32; 62];
-    let front = inter_into(main.fields(), &encodings, s, from, &mut fields);
+    let front = inter_front(main.fields(), &encodings, s, from, &mut fields);
     joined(front, fields)
 }
 
-pub fn slow(d: Definition, s: &[u8], from: Cursor) -> Reading
+pub fn slow(d: Definition, s: &[u8], from: Cursor) -> Result<(Raw, Cursor), Fault>
     ensures { SlowOwes d s.now from result }
 {
     let slow = d.slow;
     let encodings = slow.encodings;
     let mut fields = [0u32; 62];
-    let front = slow_into(slow.n, &encodings, s, from, &mut fields);
+    let front = slow_front(slow.n, &encodings, s, from, &mut fields);
     joined(front, fields)
 }

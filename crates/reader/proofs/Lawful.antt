@@ -8,9 +8,9 @@ use native.Mathlib.Omega.{arith}
 use lib.ListN.{length, drop, length-drop}
 use lib.Seq.{drop-append-le, drop-append-add}
 use Rattle.bits.proofs.Laws.{by_test}
+use Rattle.reader.proofs.Reading.{ok_parts}
 use Rattle.reader.specs.declared.Cursor.{Cursor}
-use Rattle.reader.specs.declared.Read.TheVariants as read
-use Rattle.reader.specs.declared.Step.TheVariants as step
+use Rattle.std.specs.Prelude.{Ok}
 use Rattle.reader.specs.Got.{Spent, Got, got, cut, corrupt, after, Reader, onward, ◌>>=◌, give, fault, byte, bytes}
 use Rattle.reader.specs.Place.{rest, on, read_at, group_at}
 
@@ -34,9 +34,6 @@ Kept corrupt g = g ≡ corrupt
 pub record Lawful {A : Type 0} (least : ℕ) (f : Reader A) : Type 0 where
   pub within : (c : List ℕ) → Within least c (f c)
   pub stable : (c d : List ℕ) → Kept (f c) (f (c ++ d))
-
-never : ◌≡◌ {A = ℕ} 0 1 → ⊥
-never e = omega arith
 
 -- ## Single readers
 
@@ -131,14 +128,14 @@ module _ (s : List ℕ) (c : Cursor) (l : ℕ) (inside : c.at ≤ length s) wher
   further : (u : Spent) {n : Cursor} → (l ≤ u.bytes) × (u.bytes ≤ length (rest c s)) → on c u ≡ n → Further n
   further u w e = subst Further e (omega (arith, simp length-drop at w.1))
 
-  pub read_progress : (g : Got ℕ) {v : ℕ} {n : Cursor} → Within l (rest c s) g → read_at c g ≡ read.Num v n → Further n
+  pub read_progress : {A : Type 0} (g : Got A) {v : A} {n : Cursor} → Within l (rest c s) g → read_at c g ≡ Ok (v, n) → Further n
   unfolding read_at
-  read_progress (got v u) w e = further u w (cc)
-  read_progress cut w e = absurd (never (cc))
-  read_progress corrupt w e = absurd (never (cc))
+  read_progress (got v u) w e = further u w (ok_parts e).1
+  read_progress cut w e = absurd (cc)
+  read_progress corrupt w e = absurd (cc)
 
-  pub group_progress : (g : Got (List ℕ)) {n : Cursor} → Within l (rest c s) g → (group_at c g).step ≡ step.Next n → Further n
+  pub group_progress : (g : Got (List ℕ)) {n : Cursor} → Within l (rest c s) g → (group_at c g).step ≡ Ok n → Further n
   unfolding group_at
   group_progress (got vs u) w e = further u w (cc)
-  group_progress cut w e = absurd (never (cc))
-  group_progress corrupt w e = absurd (never (cc))
+  group_progress cut w e = absurd (cc)
+  group_progress corrupt w e = absurd (cc)

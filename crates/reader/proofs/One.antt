@@ -2,13 +2,12 @@
 use Prim.Native.Nat.{ℕ}
 use mathlib.Core.List.{List}
 use mathlib.Core.Path.{◌≡◌, sym, ◌∙◌}
-use Rattle.reader.specs.declared.Byte.{Byte}
+use Rattle.std.specs.Prelude.{Option, Result}
 use Rattle.reader.specs.declared.Cursor.{Cursor}
+use Rattle.reader.specs.declared.Fault.{Fault}
 use Rattle.reader.specs.declared.Group.{Group}
-use Rattle.reader.specs.declared.Letter.{Letter}
+use Rattle.reader.specs.declared.Kind.{Kind}
 use Rattle.reader.specs.declared.RestorePoint.{RestorePoint}
-use Rattle.reader.specs.declared.Skip.{Skip}
-use Rattle.reader.specs.declared.Step.{Step}
 use Rattle.reader.specs.Owes.{GetRestorePointOwes, RestoreOwes, StoppedOwes, ReadU8Owes, FromByteOwes, SkipToFrameOwes}
 
 -- a promise is one equation to a definition
@@ -21,14 +20,14 @@ get_restore_point_one c = one_answer
 pub restore_one : (p : RestorePoint) {r t : Cursor} → RestoreOwes p r → RestoreOwes p t → r ≡ t
 restore_one p = one_answer
 
-pub stopped_one : (step : Step) {r t : Group} → StoppedOwes step r → StoppedOwes step t → r ≡ t
+pub stopped_one : (step : Result Cursor Fault) {r t : Group} → StoppedOwes step r → StoppedOwes step t → r ≡ t
 stopped_one step = one_answer
 
-pub read_u8_one : (s : List ℕ) (from : Cursor) {r t : Byte} → ReadU8Owes s from r → ReadU8Owes s from t → r ≡ t
+pub read_u8_one : (s : List ℕ) (from : Cursor) {r t : Option (ℕ × Cursor)} → ReadU8Owes s from r → ReadU8Owes s from t → r ≡ t
 read_u8_one s from = one_answer
 
-pub from_byte_one : (b : ℕ) {r t : Letter} → FromByteOwes b r → FromByteOwes b t → r ≡ t
+pub from_byte_one : (b : ℕ) {r t : Option Kind} → FromByteOwes b r → FromByteOwes b t → r ≡ t
 from_byte_one b = one_answer
 
-pub skip_to_frame_one : (s : List ℕ) (from : RestorePoint) {r t : Skip} → SkipToFrameOwes s from r → SkipToFrameOwes s from t → r ≡ t
+pub skip_to_frame_one : (s : List ℕ) (from : RestorePoint) {r t : Option ℕ} → SkipToFrameOwes s from r → SkipToFrameOwes s from t → r ≡ t
 skip_to_frame_one s from = one_answer

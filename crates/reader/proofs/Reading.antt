@@ -2,15 +2,16 @@
 -- The laws at places are stated over F, what the code answers for a reading at a place, whatever the type of its answer.
 use Prim.Native.Nat.{ℕ}
 use mathlib.Core.List.{List}
-use mathlib.Core.Path.{◌≡◌, refl, sym, ap, ◌∙◌}
+use mathlib.Core.Path.{◌≡◌, refl, sym, ap, ap₂, ◌∙◌}
 use native.Mathlib.Nat.{add_assoc, add-zero, zero-add}
 use lib.ListN.{drop}
 use lib.Seq.{drop-drop}
+use Rattle.std.specs.Prelude.{Result, Ok, Err, IsErrAnd}
+use Rattle.std.proofs.lemmas.Result.{err_from_is_err_and}
 use Rattle.reader.specs.declared.Cursor.{Cursor}
+use Rattle.reader.specs.declared.Fault.{Fault}
+use Rattle.reader.specs.declared.Fault.TheVariants.{Cut, Corrupt}
 use Rattle.reader.specs.declared.Group.{Group}
-use Rattle.reader.specs.declared.Read.{Read}
-use Rattle.reader.specs.declared.Read.TheVariants as read
-use Rattle.reader.specs.declared.Step.TheVariants as step
 use Rattle.reader.specs.Got.{Spent, nothing, both, Got, got, cut, corrupt, over, after, Reader, onward, ◌>>=◌, give}
 use Rattle.reader.specs.Place.{rest, on, read_at, padded, no_values, group_at}
 
@@ -75,14 +76,14 @@ on_both c u v = λ i. record { at = sym (add_assoc c.at u.bytes v.bytes) i }
 pub on_nothing : (c : Cursor) → on c nothing ≡ c
 on_nothing c = λ i. record { at = add-zero c.at i }
 
-pub read_after : (c : Cursor) (u : Spent) (g : Got ℕ) → read_at c (after u g) ≡ read_at (on c u) g
+pub read_after : {A : Type 0} (c : Cursor) (u : Spent) (g : Got A) → read_at c (after u g) ≡ read_at (on c u) g
 unfolding read_at after
-read_after c u (got v w) = ap (read.Num v) (on_both c u w)
+read_after c u (got a w) = ap (λ p. Ok (a, p)) (on_both c u w)
 read_after c u cut = refl
 read_after c u corrupt = refl
 
-group≡ : {n m : Cursor} (vs : List ℕ) → n ≡ m → ◌≡◌ {A = Group} (record { step = step.Next n; values = vs }) (record { step = step.Next m; values = vs })
-group≡ vs e = λ i. record { step = step.Next (e i); values = vs }
+group≡ : {n m : Cursor} (vs : List ℕ) → n ≡ m → ◌≡◌ {A = Group} (record { step = Ok n; values = vs }) (record { step = Ok m; values = vs })
+group≡ vs e = λ i. record { step = Ok (e i); values = vs }
 
 pub group_after : (c : Cursor) (u : Spent) (g : Got (List ℕ)) → group_at c (after u g) ≡ group_at (on c u) g
 unfolding group_at after
@@ -96,57 +97,73 @@ pub onward_got : {A B R : Type 0} (F : Cursor → Got B → R) → ((c : Cursor)
 unfolding onward
 onward_got F F-after k s c a u = F-after c u (k a (drop u.bytes (rest c s))) ∙ ap (λ d. F (on c u) (k a d)) (drop-drop u.bytes c.at s)
 
--- ## The arms of a `match` on what a reader of a number answered
+-- ## What the code answers where a reader before it answered a value, or a fault
 
-module _ {B R : Type 0} (F : Cursor → Got B → R) (G : B → Cursor → R) (F-got : (c : Cursor) (b : B) (u : Spent) → F c (got b u) ≡ G b (on c u))
-    (f : ℕ → B) (c : Cursor) (r : Read) where
-  arm_num : (g : Got ℕ) {v : ℕ} {n : Cursor} → r ≡ read_at c g → r ≡ read.Num v n → G (f v) n ≡ F c (over f g)
+-- the reading in which a fault was met
+abbrev pub met : {A : Type 0} → Fault → Got A
+met Cut = cut
+met Corrupt = corrupt
+
+pub ok_parts : {A : Type 0} {a b : A} {p q : Cursor} → ◌≡◌ {A = Result (A × Cursor) Fault} (Ok (a, p)) (Ok (b, q)) → (a ≡ b) × (p ≡ q)
+ok_parts {A} {a} {b} {p} {q} e = let same : ◌≡◌ {A = A × Cursor} (a, p) (b, q) = cc in (ap (λ x. x.0) same, ap (λ x. x.1) same)
+
+module _ {A B R : Type 0} (F : Cursor → Got B → R) (G : B → Cursor → R) (F-got : (c : Cursor) (b : B) (u : Spent) → F c (got b u) ≡ G b (on c u))
+    (f : A → B) (c : Cursor) where
+  arm_ok : (g : Got A) {a : A} {n : Cursor} → Ok (a, n) ≡ read_at c g → G (f a) n ≡ F c (over f g)
   unfolding over read_at
-  arm_num (got w u) e₁ e₂ = cc (F-got c (f w) u)
-  arm_num cut e₁ e₂ = cc
-  arm_num corrupt e₁ e₂ = cc
+  arm_ok (got w u) e = let same = ok_parts e in ap₂ (λ x n. G (f x) n) same.0 same.1 ∙ sym (F-got c (f w) u)
+  arm_ok cut e = absurd (cc)
+  arm_ok corrupt e = absurd (cc)
 
-  arm_cut : (g : Got ℕ) → r ≡ read_at c g → r ≡ read.Cut → F c cut ≡ F c (over f g)
+  arm_err : (g : Got A) {d : Fault} → Err d ≡ read_at c g → F c (met d) ≡ F c (over f g)
   unfolding over read_at
-  arm_cut (got w u) e₁ e₂ = cc
-  arm_cut cut e₁ e₂ = refl
-  arm_cut corrupt e₁ e₂ = cc
+  arm_err (got w u) e = absurd (cc)
+  arm_err cut {d} e = let same : d ≡ Cut = cc in rw same
+  arm_err corrupt {d} e = let same : d ≡ Corrupt = cc in rw same
 
-  arm_corrupt : (g : Got ℕ) → r ≡ read_at c g → r ≡ read.Corrupt → F c corrupt ≡ F c (over f g)
-  unfolding over read_at
-  arm_corrupt (got w u) e₁ e₂ = cc
-  arm_corrupt cut e₁ e₂ = cc
-  arm_corrupt corrupt e₁ e₂ = refl
-
-read_got : (c : Cursor) (v : ℕ) (u : Spent) → read_at c (got v u) ≡ read.Num v (on c u)
+read_got : {A : Type 0} (c : Cursor) (a : A) (u : Spent) → read_at c (got a u) ≡ Ok (a, on c u)
 unfolding read_at
-read_got c v u = refl
+read_got c a u = refl
 
-group_got : (c : Cursor) (vs : List ℕ) (u : Spent) → group_at c (got vs u) ≡ record { step = step.Next (on c u); values = padded 8 vs }
+group_got : (c : Cursor) (vs : List ℕ) (u : Spent) → group_at c (got vs u) ≡ record { step = Ok (on c u); values = padded 8 vs }
 unfolding group_at
 group_got c vs u = refl
 
--- a number made of a number
-module _ (f : ℕ → ℕ) (c : Cursor) (r : Read) (g : Got ℕ) where
-  pub num_num : {v w : ℕ} {n : Cursor} → r ≡ read_at c g → r ≡ read.Num v n → w ≡ f v → read.Num w n ≡ read_at c (over f g)
-  num_num {v} {w} {n} e₁ e₂ e₃ = ap (λ x. read.Num x n) e₃ ∙ arm_num read_at read.Num read_got f c r g e₁ e₂
+pub read_met : {A : Type 0} (c : Cursor) (e : Fault) → read_at {A = A} c (met e) ≡ Err e
+unfolding read_at
+read_met c Cut = refl
+read_met c Corrupt = refl
 
-  pub num_cut : r ≡ read_at c g → r ≡ read.Cut → read.Cut ≡ read_at c (over f g)
-  num_cut e₁ e₂ = unfold read_at in arm_cut read_at read.Num read_got f c r g e₁ e₂
+pub group_met : (c : Cursor) (e : Fault) → group_at c (met e) ≡ no_values (Err e)
+unfolding group_at
+group_met c Cut = refl
+group_met c Corrupt = refl
 
-  pub num_corrupt : r ≡ read_at c g → r ≡ read.Corrupt → read.Corrupt ≡ read_at c (over f g)
-  num_corrupt e₁ e₂ = unfold read_at in arm_corrupt read_at read.Num read_got f c r g e₁ e₂
+-- no value, whatever is made of it
+pub over_met : {A B : Type 0} (f : A → B) (d : Fault) → over f (met d) ≡ met d
+unfolding over
+over_met f Cut = refl
+over_met f Corrupt = refl
 
--- a group made of a number
-module _ (f : ℕ → List ℕ) (c : Cursor) (r : Read) (g : Got ℕ) where
-  abbrev next : List ℕ → Cursor → Group
-  next vs n = record { step = step.Next n; values = padded 8 vs }
+-- a value made of a value
+module _ {A B : Type 0} (f : A → B) (c : Cursor) (g : Got A) where
+  pub made_ok : {a : A} {b : B} {n : Cursor} → Ok (a, n) ≡ read_at c g → b ≡ f a → Ok (b, n) ≡ read_at c (over f g)
+  made_ok {n = n} e h = ap (λ x. Ok (x, n)) h ∙ arm_ok read_at (λ b n. Ok (b, n)) read_got f c g e
 
-  pub group_num : {v : ℕ} {n : Cursor} → r ≡ read_at c g → r ≡ read.Num v n → record { step = step.Next n; values = padded 8 (f v) } ≡ group_at c (over f g)
-  group_num e₁ e₂ = arm_num group_at next group_got f c r g e₁ e₂
+  pub made_err : {d : Fault} → Err d ≡ read_at c g → Err d ≡ read_at c (over f g)
+  made_err {d} e = sym (read_met c d) ∙ arm_err read_at (λ b n. Ok (b, n)) read_got f c g e
 
-  pub group_cut : r ≡ read_at c g → r ≡ read.Cut → no_values step.Cut ≡ group_at c (over f g)
-  group_cut e₁ e₂ = unfold group_at in arm_cut group_at next group_got f c r g e₁ e₂
+-- a group made of a value
+abbrev next : List ℕ → Cursor → Group
+next vs n = record { step = Ok n; values = padded 8 vs }
 
-  pub group_corrupt : r ≡ read_at c g → r ≡ read.Corrupt → no_values step.Corrupt ≡ group_at c (over f g)
-  group_corrupt e₁ e₂ = unfold group_at in arm_corrupt group_at next group_got f c r g e₁ e₂
+module _ {A : Type 0} (f : A → List ℕ) (c : Cursor) (g : Got A) where
+  pub group_ok : {a : A} {n : Cursor} → Ok (a, n) ≡ read_at c g → next (f a) n ≡ group_at c (over f g)
+  group_ok e = arm_ok group_at next group_got f c g e
+
+  pub group_err : {d : Fault} → Err d ≡ read_at c g → no_values (Err d) ≡ group_at c (over f g)
+  group_err {d} e = sym (group_met c d) ∙ arm_err group_at next group_got f c g e
+
+-- what a `?` hands on is the fault that it met
+pub handed_on : {A : Type 0} {r : Result A Fault} {d : Fault} → IsErrAnd r (λ e. e ≡ d) → r ≡ Err d
+handed_on {r = r} h = let p = err_from_is_err_and r h in p.1 ∙ ap Err p.2

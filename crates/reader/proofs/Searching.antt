@@ -1,80 +1,66 @@
--- The search byte by byte, as the code goes about it.
-use Prim.Native.Nat.{ℕ, ◌+◌, ◌-◌, ◌<◌, ◌≤◌}
+-- The search as the library's `position` goes about it.
+use Prim.Native.Nat.{ℕ, ◌+◌, ◌≤◌}
 use mathlib.Core.Bool.{Bool, true, false, cond}
-use mathlib.Core.List.{List}
-use mathlib.Core.Option.{Option, none, some}
+use mathlib.Core.List.{List, [], ◌∷◌}
+use mathlib.Core.Logic.{◌⊎◌, inl, inr}
 use mathlib.Core.Path.{◌≡◌, refl, sym, ap, ◌∙◌}
-use native.Mathlib.Numerals.{add-one}
 use native.Mathlib.Omega.{arith}
-use lib.Dec.{eqb}
-use lib.ListN.{length, drop, get_or, drop_of_length-le}
-use lib.Seq.{drop-cons}
 use borrow.Author.Tests.{ne_eqb}
+use lib.Dec.{eqb, ltb}
+use lib.ListN.{length, drop, length-drop, drop_of_length-le}
+use Rattle.std.specs.Prelude.{Option, Some, None, option_map, slice_range}
+use Rattle.std.specs.List.{position_from, position_or_len}
+use Rattle.std.proofs.lemmas.List.{take_all}
+use Rattle.std.proofs.lemmas.Iterator.Adapters.{position_from-zero}
 use Rattle.reader.specs.declared.Kind.TheVariants.{Inter}
-use Rattle.reader.specs.declared.Letter.TheVariants.{Is, Other}
-use Rattle.reader.specs.declared.Skip.{Skip}
-use Rattle.reader.specs.Search.{letter_of, searched, further, ahead, skip_of, seek}
+use Rattle.reader.specs.Search.{letter_of, searched, further, ahead}
 
--- how far ahead, seen further_by n bytes before
-unfoldable pub further_by : ℕ → Option ℕ → Option ℕ
-further_by n none = none
-further_by n (some m) = some (n + m)
+abbrev pub sought : ℕ → Bool
+sought b = searched (letter_of b)
 
-further_none : (o : Option ℕ) → further_by 0 o ≡ o
-unfolding further_by
-further_none none = refl
-further_none (some m) = ap some (omega arith)
+one_on : (i : ℕ) (o : Option ℕ) → option_map (λ m. (i + 1) + m) o ≡ option_map (λ m. i + m) (further o)
+one_on i None = refl
+one_on i (Some m) = ap Some (omega arith)
 
-further_on : (n : ℕ) (o : Option ℕ) → further_by n (further o) ≡ further_by (n + 1) o
-unfolding further_by
-further_on n none = refl
-further_on n (some m) = ap some (omega arith)
+either : (t : Bool) (i : ℕ) (o : Option ℕ) → cond t (Some i) (option_map (λ m. (i + 1) + m) o) ≡ option_map (λ m. i + m) (cond t (Some 0) (further o))
+either true i o = ap Some (omega arith)
+either false i o = one_on i o
 
--- the byte at i, and what lies behind it
-ahead_at : (s : List ℕ) (i : ℕ) → i < length s
-    → ahead (drop i s) ≡ cond (searched (letter_of (get_or s i 0))) (some 0) (further (ahead (drop (i + 1) s)))
+from_here : (i : ℕ) (t : List ℕ) → position_from sought i t ≡ option_map (λ m. i + m) (ahead t)
 unfolding ahead
-ahead_at s i h = rw (add-one i, drop-cons s i 0 h)
+from_here i [] = refl
+from_here i (b ∷ t) = ap (cond (sought b) (Some i)) (from_here (i + 1) t) ∙ either (sought b) i (ahead t)
 
--- what is no E I S G H is passed: P, and every other byte
-pub passed : (b : ℕ) → (b ≡ 69 → ⊥) × (b ≡ 73 → ⊥) × (b ≡ 83 → ⊥) × (b ≡ 71 → ⊥) × (b ≡ 72 → ⊥) → false ≡ searched (letter_of b)
+nothing_before : (o : Option ℕ) → option_map (λ m. 0 + m) o ≡ o
+nothing_before None = refl
+nothing_before (Some m) = ap Some (omega arith)
+
+pub ahead_position : (t : List ℕ) → cond (ltb (position_or_len sought t) (length t)) (Some (position_or_len sought t)) None ≡ ahead t
+ahead_position t = position_from-zero sought t ∙ from_here 0 t ∙ nothing_before (ahead t)
+
+-- the bytes from a place on, as the library cuts them
+pub to_the_end : (s : List ℕ) (i : ℕ) → slice_range s i (length s) ≡ drop i s
+to_the_end s i = take_all _ (drop i s) (omega (arith, length-drop i s))
+
+-- beyond the end nothing is left
+pub beyond : (s : List ℕ) (i : ℕ) → length s ≤ i → None ≡ ahead (drop i s)
+unfolding ahead
+beyond s i h = ap ahead (sym (drop_of_length-le s h))
+
+-- ## A byte that is sought, or is not
+
+pub passed : (b : ℕ) → (b ≡ 69 → ⊥) × (b ≡ 71 → ⊥) × (b ≡ 72 → ⊥) × (b ≡ 73 → ⊥) × (b ≡ 83 → ⊥) → false ≡ sought b
 unfolding searched letter_of
-passed b h = rw (ne_eqb b 69 h.0, ne_eqb b 73 h.1, ne_eqb b 71 h.3, ne_eqb b 72 h.4, ne_eqb b 83 h.2) (either (eqb b 80))
+passed b h = rw (ne_eqb b 69 h.0, ne_eqb b 71 h.1, ne_eqb b 72 h.2, ne_eqb b 73 h.3, ne_eqb b 83 h.4) (p_or_none (eqb b 80))
   where
-    either : (t : Bool) → false ≡ searched (cond t (Is Inter) Other)
-    either true = refl
-    either false = refl
+    p_or_none : (t : Bool) → false ≡ searched (cond t (Some Inter) None)
+    p_or_none true = refl
+    p_or_none false = refl
 
--- a search from `start` has come to i: nothing lies between
-pub record Come (s : List ℕ) (start i : ℕ) : Type 0 where
-  pub is : ahead (drop start s) ≡ further_by (i - start) (ahead (drop i s))
-
-pub come_here : (s : List ℕ) (start : ℕ) → Come s start start
-come_here s start = let z : start - start ≡ 0 = omega arith in record { is = rw (z, further_none) }
-
-module _ (s : List ℕ) (start i : ℕ) where
-  pub come_on : {b : Bool} → Come s start i → b ≡ searched (letter_of (get_or s i 0)) → b ≡ false → i < length s → start ≤ i → Come s start (i + 1)
-  come_on come e f lt le =
-      let miss : searched (letter_of (get_or s i 0)) ≡ false = sym e ∙ f in
-      let z : i + 1 - start ≡ (i - start) + 1 = omega arith in
-      record {
-        is =
-            come.is ∙ ap (further_by (i - start)) (ahead_at s i lt ∙ rw miss) ∙ further_on (i - start) (ahead (drop (i + 1) s))
-            ∙ ap (λ n. further_by n (ahead (drop (i + 1) s))) (sym z);
-      }
-
-  pub come_found : {b : Bool} → Come s start i → b ≡ searched (letter_of (get_or s i 0)) → b ≡ true → i < length s
-      → ◌≡◌ {A = Skip} (record { by = i - start; barren = false }) (seek (drop start s))
-  unfolding seek skip_of further_by
-  come_found come e f lt =
-      let hit : searched (letter_of (get_or s i 0)) ≡ true = sym e ∙ f in
-      let here : ahead (drop i s) ≡ some 0 = ahead_at s i lt ∙ rw hit in
-      let found : ahead (drop start s) ≡ some (i - start + 0) = come.is ∙ ap (further_by (i - start)) here in
-      let z : i - start + 0 ≡ i - start = omega arith in
-      rw (found, z)
-
-  pub come_end : Come s start i → length s ≤ i → ◌≡◌ {A = Skip} (record { by = 0; barren = true }) (seek (drop start s))
-  unfolding seek skip_of further_by ahead
-  come_end come le =
-      let over : ahead (drop i s) ≡ none = rw (drop_of_length-le s le) in
-      rw (come.is ∙ ap (further_by (i - start)) over)
+pub is_sought : (b : ℕ) → (b ≡ 69) ⊎ (b ≡ 71) ⊎ (b ≡ 72) ⊎ (b ≡ 73) ⊎ (b ≡ 83) → true ≡ sought b
+unfolding searched letter_of
+is_sought b (inl e) = rw e
+is_sought b (inr (inl e)) = rw e
+is_sought b (inr (inr (inl e))) = rw e
+is_sought b (inr (inr (inr (inl e)))) = rw e
+is_sought b (inr (inr (inr (inr e)))) = rw e

@@ -1,11 +1,7 @@
 -- The bytes that frames begin with, and the search for the next of them (document 01, "The walk").
-use Rattle.std.specs.Prelude.{ℕ, suc, Bool, true, false, cond, List, [], ◌∷◌, eqb}
-use Rattle.std.proofs.Math.Option.{Option, none, some}
+use Rattle.std.specs.Prelude.{ℕ, suc, Bool, true, false, cond, List, [], ◌∷◌, eqb, Option, Some, None}
 use Rattle.reader.specs.declared.Kind.{Kind}
 use Rattle.reader.specs.declared.Kind.TheVariants.{Event, Intra, Inter, Gps, Home, Slow}
-use Rattle.reader.specs.declared.Letter.{Letter}
-use Rattle.reader.specs.declared.Letter.TheVariants.{Is, Other}
-use Rattle.reader.specs.declared.Skip.{Skip}
 
 -- the byte of each kind: E I P G H S
 abbrev pub byte_of : Kind → ℕ
@@ -17,38 +13,30 @@ byte_of Home = 72
 byte_of Slow = 83
 
 -- the kind that a byte stands for, if any
-unfoldable pub letter_of : ℕ → Letter
+unfoldable pub letter_of : ℕ → Option Kind
 letter_of b =
-    cond (eqb b (byte_of Event)) (Is Event)
-    (cond (eqb b (byte_of Intra)) (Is Intra)
-    (cond (eqb b (byte_of Inter)) (Is Inter)
-    (cond (eqb b (byte_of Gps)) (Is Gps)
-    (cond (eqb b (byte_of Home)) (Is Home)
-    (cond (eqb b (byte_of Slow)) (Is Slow) Other)))))
+    cond (eqb b (byte_of Event)) (Some Event)
+    (cond (eqb b (byte_of Intra)) (Some Intra)
+    (cond (eqb b (byte_of Inter)) (Some Inter)
+    (cond (eqb b (byte_of Gps)) (Some Gps)
+    (cond (eqb b (byte_of Home)) (Some Home)
+    (cond (eqb b (byte_of Slow)) (Some Slow) None)))))
 
 -- a search goes to the next of E I S G H, not P
-unfoldable pub searched : Letter → Bool
-searched (Is Event) = true
-searched (Is Intra) = true
-searched (Is Inter) = false
-searched (Is Gps) = true
-searched (Is Home) = true
-searched (Is Slow) = true
-searched Other = false
+unfoldable pub searched : Option Kind → Bool
+searched (Some Event) = true
+searched (Some Intra) = true
+searched (Some Inter) = false
+searched (Some Gps) = true
+searched (Some Home) = true
+searched (Some Slow) = true
+searched None = false
 
 abbrev pub further : Option ℕ → Option ℕ
-further none = none
-further (some n) = some (suc n)
+further None = None
+further (Some n) = Some (suc n)
 
--- how far ahead the next of them stands
+-- how far ahead the next of them stands, if one is left
 unfoldable pub ahead : List ℕ → Option ℕ
-ahead [] = none
-ahead (b ∷ t) = cond (searched (letter_of b)) (some 0) (further (ahead t))
-
--- if none is left the place does not move
-unfoldable pub skip_of : Option ℕ → Skip
-skip_of none = record { by = 0; barren = true }
-skip_of (some n) = record { by = n; barren = false }
-
-unfoldable pub seek : List ℕ → Skip
-seek t = skip_of (ahead t)
+ahead [] = None
+ahead (b ∷ t) = cond (searched (letter_of b)) (Some 0) (further (ahead t))

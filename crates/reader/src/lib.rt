@@ -16,38 +16,23 @@ pub struct Cursor {
 #[derive(Clone, Copy)]
 pub struct RestorePoint(pub usize);
 
-// A byte and the place behind it.
-#[derive(Clone, Copy)]
-pub enum Byte {
-    Here(u8, Cursor),
-    End,
-}
-
-// A number, as a 32-bit pattern, and the place behind it; the data ended inside; or the bytes are no number.
-#[derive(Clone, Copy)]
-pub enum Read {
-    Num(u32, Cursor),
+// Why reading does not go on: the data ended inside; or the bytes are no such value.
+#[derive(Clone, Copy, PartialEq, Eq, Debug)]
+pub enum Fault {
     Cut,
     Corrupt,
 }
 
-// Where reading goes on, or why it does not.
-#[derive(Clone, Copy)]
-pub enum Step {
-    Next(Cursor),
-    Cut,
-    Corrupt,
-}
-
-// The numbers of a group, as 32-bit patterns, and zeros behind them. They stand beside the step, whatever it is.
+// The numbers of a group, as 32-bit patterns, and zeros behind them; and where reading goes on, or why it does not.
+// The numbers stand beside the step, whatever it is: the edit stopped_with_ones says a wrong thing of those of a stopped group.
 #[derive(Clone, Copy)]
 pub struct Group {
-    pub step: Step,
+    pub step: Result<Cursor, Fault>,
     pub values: [u32; 8],
 }
 
 // The kinds of frames, by their letters E I P G H S.
-#[derive(Clone, Copy)]
+#[derive(Clone, Copy, PartialEq, Eq, Debug)]
 pub enum Kind {
     Event,
     Intra,
@@ -55,20 +40,6 @@ pub enum Kind {
     Gps,
     Home,
     Slow,
-}
-
-// What a byte stands for where a frame may begin.
-#[derive(Clone, Copy)]
-pub enum Letter {
-    Is(Kind),
-    Other,
-}
-
-// How far a search goes, and whether it found nothing: then no later place has anything to find.
-#[derive(Clone, Copy)]
-pub struct Skip {
-    pub by: usize,
-    pub barren: bool,
 }
 
 impl Cursor {
@@ -89,7 +60,7 @@ impl RestorePoint {
 
 impl Group {
     // No numbers: why reading stopped.
-    pub fn stopped(step: Step) -> Group
+    pub fn stopped(step: Result<Cursor, Fault>) -> Group
         ensures { StoppedOwes step result }
     {
         Group {
@@ -99,30 +70,31 @@ impl Group {
     }
 }
 
-// The byte at a place.
-pub fn read_u8(s: &[u8], from: Cursor) -> Byte
+// The byte at a place, and the place behind it; or nothing at the end.
+pub fn read_u8(s: &[u8], from: Cursor) -> Option<(u8, Cursor)>
     ensures { ReadU8Owes s.now from result }
 {
     let at = from.at;
     if at < s.len() {
-        Byte::Here(s[at], Cursor { at: at + 1 })
+        Some((s[at], Cursor { at: at + 1 }))
     } else {
-        Byte::End
+        None
     }
 }
 
-impl Letter {
-    pub fn from_byte(b: u8) -> Letter
+impl Kind {
+    // The kind whose letter a byte is, where a frame may begin.
+    pub fn from_byte(b: u8) -> Option<Kind>
         ensures { FromByteOwes b result }
     {
         match b {
-            b'E' => Letter::Is(Kind::Event),
-            b'I' => Letter::Is(Kind::Intra),
-            b'P' => Letter::Is(Kind::Inter),
-            b'G' => Letter::Is(Kind::Gps),
-            b'H' => Letter::Is(Kind::Home),
-            b'S' => Letter::Is(Kind::Slow),
-            _ => Letter::Other,
+            b'E' => Some(Kind::Event),
+            b'I' => Some(Kind::Intra),
+            b'P' => Some(Kind::Inter),
+            b'G' => Some(Kind::Gps),
+            b'H' => Some(Kind::Home),
+            b'S' => Some(Kind::Slow),
+            _ => None,
         }
     }
 }
@@ -131,33 +103,12 @@ impl Letter {
 fn stops(b: u8) -> bool
     ensures { result ≡ searched (letter_of b) }
 {
-    match b {
-        b'E' => true,
-        b'I' => true,
-        b'S' => true,
-        b'G' => true,
-        b'H' => true,
-        _ => false,
-    }
+    matches!(b, b'E' | b'I' | b'S' | b'G' | b'H')
 }
 
-// How far ahead the next of E I S G H stands, the byte at `from` included; P is passed over.
-pub fn skip_to_frame(s: &[u8], from: RestorePoint) -> Skip
+// How far ahead the next of E I S G H stands, the byte at `from` included, or nothing where none is left; P is passed over.
+pub fn skip_to_frame(s: &[u8], from: RestorePoint) -> Option<usize>
     ensures { SkipToFrameOwes s.now from result }
 {
-    let start = from.0;
-    let mut i = start;
-    while i < s.len() {
-        if stops(s[i]) {
-            return Skip {
-                by: i - start,
-                barren: false,
-            };
-        }
-        i += 1;
-    }
-    Skip {
-        by: 0,
-        barren: true,
-    }
+    s.get(from.0..)?.iter().position(|b| stops(*b))
 }

@@ -1,17 +1,21 @@
 -- How a group whose head tells its size is answered: cut where the bytes end before it does, and else the values and the place behind.
-use Prim.Native.Nat.{ℕ, ◌+◌, ◌-◌, ◌<◌, ◌≤◌}
-use mathlib.Core.List.{List, map}
-use mathlib.Core.Path.{◌≡◌, ◌∙◌, ap}
+use Prim.Native.Nat.{ℕ, suc, ◌+◌, ◌-◌, ◌<◌, ◌≤◌}
+use mathlib.Core.List.{List, [], ◌∷◌, map}
+use mathlib.Core.Path.{◌≡◌, sym}
 use native.Mathlib.Omega.{arith}
+use lib.Dec.{ltb}
 use lib.IntN.{ℤ}
-use lib.ListN.{length, get_or, length-drop}
-use lib.Seq.{get_or-drop}
+use lib.ListN.{length, get_or, drop, length-drop, drop_of_length-le}
+use lib.Seq.{drop-cons}
+use borrow.Author.Tests.{ltb-true, ltb-false, lt-ltb, le-ltb}
+use Rattle.std.specs.Prelude.{Ok, Err}
+use Rattle.bits.proofs.Laws.{by_test}
 use Rattle.bits.specs.Pattern.{pattern}
 use Rattle.reader.specs.declared.Cursor.{Cursor}
-use Rattle.reader.specs.declared.Group.{Group}
-use Rattle.reader.specs.declared.Step.TheVariants as step
+use Rattle.reader.specs.declared.Fault.TheVariants.{Cut}
 use Rattle.reader.specs.Got.{Reader, over}
 use Rattle.reader.specs.Place.{rest, padded, no_values, group_at}
+use Rattle.tagged.specs.Sized.{by_head}
 use Rattle.tagged.proofs.Fixed.{Fixed}
 
 -- the head is the first byte, and tells the size, never none, and the values
@@ -19,23 +23,32 @@ pub record SizedByHead (enc : Reader (List ℤ)) (size : ℕ → ℕ) (vals : �
   pub some : (head : ℕ) → 0 < size head
   pub fixed : (c : List ℕ) → Fixed enc c (size (get_or c 0 0)) (vals (get_or c 0 0) c)
 
-module _ {enc : Reader (List ℤ)} {size : ℕ → ℕ} {vals : ℕ → List ℕ → List ℤ} (told : SizedByHead enc size vals) (s : List ℕ) (from : Cursor) where
-  here : Fixed enc (rest from s) (size (get_or s from.at 0)) (vals (get_or s from.at 0) (rest from s))
-  here =
-      let z : from.at + 0 ≡ from.at = omega arith in
-      let e : get_or (rest from s) 0 0 ≡ get_or s from.at 0 = get_or-drop from.at s 0 0 ∙ ap (λ i. get_or s i 0) z in
-      rw e at (told.fixed (rest from s))
+-- so it is read by its head
+pub read_by_head : {enc : Reader (List ℤ)} {size : ℕ → ℕ} {vals : ℕ → List ℕ → List ℤ} → SizedByHead enc size vals → (c : List ℕ) → by_head size vals c ≡ enc c
+unfolding by_head
+read_by_head told [] = sym ((told.fixed []).short (told.some 0))
+read_by_head {enc} {size} {vals} told (b ∷ c) =
+    by_test (λ g. g ≡ enc (b ∷ c)) (ltb (suc (length c)) (size b)) (λ e. sym ((told.fixed (b ∷ c)).short (ltb-true (suc (length c)) (size b) e)))
+    (λ e. sym ((told.fixed (b ∷ c)).whole (ltb-false (suc (length c)) (size b) e)))
 
-  pub short : {r : Group} → r ≡ no_values step.Cut → length s - from.at < size (get_or s from.at 0) → r ≡ group_at from (over (map pattern) (enc (rest from s)))
-  unfolding group_at over
-  short e h = rw (here.short (rw (length-drop from.at s) h)) e
+-- as the code finds it at a place
+module _ (size : ℕ → ℕ) (vals : ℕ → List ℕ → List ℤ) (s : List ℕ) (from : Cursor) where
+  pub end : length s ≤ from.at → no_values (Err Cut) ≡ group_at from (over (map pattern) (by_head size vals (rest from s)))
+  unfolding group_at over by_head
+  end h = rw (drop_of_length-le s h)
 
-  pub end : {r : Group} → r ≡ no_values step.Cut → length s ≤ from.at → r ≡ group_at from (over (map pattern) (enc (rest from s)))
-  end e h = short e (omega (arith, told.some (get_or s from.at 0)))
+  pub short : (from.at < length s) × (length s - from.at < size (get_or s from.at 0))
+      → no_values (Err Cut) ≡ group_at from (over (map pattern) (by_head size vals (rest from s)))
+  unfolding group_at over by_head
+  short h =
+      rw (drop-cons s from.at 0 h.0, lt-ltb (suc (length (drop (suc from.at) s))) (size (get_or s from.at 0)) (rw (length-drop (suc from.at) s) (omega arith)))
 
   pub whole : {n : ℕ} {vs : List ℕ} → n ≡ size (get_or s from.at 0) → vs ≡ padded 8 (map pattern (vals (get_or s from.at 0) (rest from s)))
       → (from.at < length s) × (n ≤ length s - from.at)
-      → record { step = step.Next (record { at = from.at + n }); values = vs } ≡ group_at from (over (map pattern) (enc (rest from s)))
-  unfolding group_at over
+      → record { step = Ok (record { at = from.at + n }); values = vs } ≡ group_at from (over (map pattern) (by_head size vals (rest from s)))
+  unfolding group_at over by_head
   whole e f h =
-      rw (here.whole (rw (length-drop from.at s) (omega arith))) (λ i. record { step = step.Next (record { at = from.at + e i }); values = f i })
+      let first = drop-cons s from.at 0 h.0 in
+      let g = rw first at f in
+      rw (first, le-ltb (suc (length (drop (suc from.at) s))) (size (get_or s from.at 0)) (rw (length-drop (suc from.at) s) (omega arith)))
+      (λ i. record { step = Ok (record { at = from.at + e i }); values = g i })

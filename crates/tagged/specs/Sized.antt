@@ -1,10 +1,16 @@
 -- How the code goes about encodings 7 and 8: the head tells the size, one test tells whether there are so many bytes, and each value is taken
 -- from its own place. No part of the meaning: only contracts of private functions cite it, and proofs/ shows that it comes to the same.
-use Rattle.std.specs.Prelude.{ℕ, ◌+◌, ◌*◌, ◌/◌, ◌%◌, List, get_or, take, drop, ℤ}
+use Rattle.std.specs.Prelude.{ℕ, suc, ◌+◌, ◌*◌, ◌/◌, ◌%◌, cond, ltb, List, [], ◌∷◌, length, get_or, take, drop, ℤ}
 use Rattle.bits.specs.Pattern.{signed}
+use Rattle.reader.specs.Got.{got, cut, Reader}
 use Rattle.tagged.specs.Choose.{pairs, choose}
 use Rattle.tagged.specs.Tagged16.{width, widths, halves, big, unpacked}
 use Rattle.tagged.specs.Tagged32.{three, little}
+
+-- a group whose head, its first byte, tells the size and the values: cut where the bytes are fewer
+unfoldable pub by_head : (size : ℕ → ℕ) → (values : ℕ → List ℕ → List ℤ) → Reader (List ℤ)
+by_head size values [] = cut
+by_head size values (b ∷ c) = cond (ltb (suc (length c)) (size b)) cut (got (values b (b ∷ c)) (record { bytes = size b }))
 
 -- n bytes of `c` from index i on, as a signed number
 unfoldable pub signed_from : ℕ → List ℕ → ℕ → ℤ

@@ -1,20 +1,19 @@
 // Encoding 8: four numbers of 0, 4, 8 or 16 bits, packed in half bytes, the high one first.
-ghost use Rattle.std.specs.Prelude.{map, ◌≡◌, ◌≤◌, ◌<◌, ◌+◌, ◌/◌, length, drop, get_or};
+ghost use Rattle.std.specs.Prelude.{◌≡◌, ◌≤◌, ◌<◌, ◌+◌, ◌/◌, length, get_or};
 ghost use Rattle.bits.specs.Pattern.{pattern};
-ghost use Rattle.reader.specs.Place.{padded};
 ghost use Rattle.tagged.specs.Owes.{Tagged16Owes};
 ghost use Rattle.tagged.specs.Sized.{halves_behind, packed_from, size8, values8};
 ghost use Rattle.tagged.specs.Tagged16 as Tagged16;
 
-use crate::{sign_extend, wide};
-use reader::{Cursor, Group, Step};
+use crate::{SizedByHead, sign_extend, sized_by_head};
+use reader::{Cursor, Group};
 
 // Half byte k behind the head at `at`.
 fn half(s: &[u8], at: usize, k: usize) -> u32
     requires { at + (1 + k / 2) < length s.now }
     ensures { (result ≡ get_or (halves_behind at s.now) k 0) × (result < 16) }
 {
-    let b = wide(s[at + (1 + k / 2)]);
+    let b = u32::from(s[at + (1 + k / 2)]);
     if k % 2 == 0 { b / 16 } else { b % 16 }
 }
 
@@ -50,46 +49,37 @@ fn packed(s: &[u8], at: usize, code: u8, k: usize) -> u32
     }
 }
 
-// The bytes that a head asks for, its own included.
-fn size_of(head: u8) -> usize
-    ensures { result ≡ size8 head }
-{
-    1 + (width(head % 4) + width(head / 4 % 4) + width(head / 16 % 4) + width(head / 64) + 1) / 2
-}
+struct Encoding8;
 
-fn values_of(s: &[u8], at: usize, head: u8) -> [u32; 8]
-    requires { at + size8 head ≤ length s.now }
-    ensures { result ≡ padded 8 (map pattern (values8 head (drop at s.now))) }
-{
-    let i = width(head % 4);
-    let j = i + width(head / 4 % 4);
-    let l = j + width(head / 16 % 4);
-    [
-        packed(s, at, head % 4, 0),
-        packed(s, at, head / 4 % 4, i),
-        packed(s, at, head / 16 % 4, j),
-        packed(s, at, head / 64, l),
-        0,
-        0,
-        0,
-        0,
-    ]
+impl SizedByHead for Encoding8 {
+    ghost size = { size8 };
+
+    ghost values = { values8 };
+
+    fn size_of(head: u8) -> usize {
+        1 + (width(head % 4) + width(head / 4 % 4) + width(head / 16 % 4) + width(head / 64) + 1)
+            / 2
+    }
+
+    fn values_of(s: &[u8], at: usize, head: u8) -> [u32; 8] {
+        let i = width(head % 4);
+        let j = i + width(head / 4 % 4);
+        let l = j + width(head / 16 % 4);
+        [
+            packed(s, at, head % 4, 0),
+            packed(s, at, head / 4 % 4, i),
+            packed(s, at, head / 16 % 4, j),
+            packed(s, at, head / 64, l),
+            0,
+            0,
+            0,
+            0,
+        ]
+    }
 }
 
 pub fn tagged_16(s: &[u8], from: Cursor) -> Group
     ensures { Tagged16Owes s.now from result }
 {
-    let at = from.at;
-    if s.len() <= at {
-        return Group::stopped(Step::Cut);
-    }
-    let head = s[at];
-    let n = size_of(head);
-    if s.len() - at < n {
-        return Group::stopped(Step::Cut);
-    }
-    Group {
-        step: Step::Next(Cursor { at: at + n }),
-        values: values_of(s, at, head),
-    }
+    sized_by_head::<Encoding8>(s, from)
 }

@@ -1,25 +1,15 @@
 -- `event::one_number` meets its contract: a number of encoding 1, and nothing more. Assumes nothing.
-use borrow.Author.Rules.{rules}
+use mathlib.Core.Path.{◌∙◌}
+use Rattle.reader.proofs.Behind.{read_on, read_stop}
+use Rattle.reader.proofs.Reading.{handed_on}
 use Rattle.event.specs.Events.{one_number}
-use Rattle.event.proofs.Told.{told_here, behind_num, num_cut, num_corrupt}
+use Rattle.event.proofs.Told.{told_here}
 use Rattle.event.proofs.one_number.Goals as goal
 
-pub variable-number-requires : goal.variable-number-requires
+pub returns-in_err-first : goal.returns-in_err-first
 unfolding one_number
-variable-number-requires c = search rules
+returns-in_err-first c = handed_on c.from_residual.ensures.1 ∙ read_stop _ _ _ _ c.in_err-first.ensures
 
-pub enum_known-number : goal.enum_known-number
+pub returns : goal.returns
 unfolding one_number
-enum_known-number c = search rules
-
-pub returns-in-Num : goal.returns-in-Num
-unfolding one_number
-returns-in-Num c = behind_num _ _ _ c.variable-number.ensures c.in-Num.is (told_here _ _ _)
-
-pub returns-in-Cut : goal.returns-in-Cut
-unfolding one_number
-returns-in-Cut c = num_cut _ _ _ c.variable-number.ensures c.in-Cut.is
-
-pub returns-in-Corrupt : goal.returns-in-Corrupt
-unfolding one_number
-returns-in-Corrupt c = num_corrupt _ _ _ c.variable-number.ensures c.in-Corrupt.is
+returns c = read_on _ _ _ _ c.in_ok-first.ensures (told_here _ _ _)

@@ -1,29 +1,21 @@
 -- `event::two_numbers` meets its contract: a number of encoding 1, and a second behind it. Assumes nothing.
-use borrow.Author.Rules.{rules}
-use Rattle.event.specs.Events.{two_numbers}
-use Rattle.event.proofs.Told.{behind_num, num_cut, num_corrupt}
+use mathlib.Core.Path.{◌∙◌}
+use Rattle.reader.proofs.Behind.{read_on, read_stop}
+use Rattle.reader.proofs.Reading.{handed_on}
+use Rattle.event.specs.Events.{with_second, two_numbers}
+use Rattle.event.proofs.Told.{told_here}
 use Rattle.event.proofs.two_numbers.Goals as goal
 
-pub variable-number-requires : goal.variable-number-requires
-unfolding two_numbers
-variable-number-requires c = search rules
+pub returns-in_err-first : goal.returns-in_err-first
+unfolding two_numbers with_second
+returns-in_err-first c = handed_on c.from_residual.ensures.1 ∙ read_stop _ _ _ _ c.in_err-first.ensures
 
-pub enum_known-number : goal.enum_known-number
-unfolding two_numbers
-enum_known-number c = search rules
+pub returns-in_err-second : goal.returns-in_err-second
+unfolding two_numbers with_second
+returns-in_err-second c =
+    handed_on c.from_residual-in_err-second.ensures.1
+    ∙ read_on _ _ _ _ c.in_ok-first.ensures (read_stop _ _ _ _ c.in_err-second.ensures)
 
-pub with_second-requires : goal.with_second-requires
-unfolding two_numbers
-with_second-requires c = search rules
-
-pub returns-in-Num : goal.returns-in-Num
-unfolding two_numbers
-returns-in-Num c = behind_num _ _ _ c.variable-number.ensures c.in-Num.is c.with_second.ensures
-
-pub returns-in-Cut : goal.returns-in-Cut
-unfolding two_numbers
-returns-in-Cut c = num_cut _ _ _ c.variable-number.ensures c.in-Cut.is
-
-pub returns-in-Corrupt : goal.returns-in-Corrupt
-unfolding two_numbers
-returns-in-Corrupt c = num_corrupt _ _ _ c.variable-number.ensures c.in-Corrupt.is
+pub returns : goal.returns
+unfolding two_numbers with_second
+returns c = read_on _ _ _ _ c.in_ok-first.ensures (read_on _ _ _ _ c.in_ok-second.ensures (told_here _ _ _))

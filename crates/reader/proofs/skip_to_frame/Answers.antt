@@ -1,16 +1,18 @@
--- `reader::skip_to_frame` meets its contract. The invariant: nothing lies between the start and `i`. Assumes nothing.
-use borrow.Author.Rules.{rules}
-use Rattle.reader.proofs.Searching.{come_here, come_on, come_found, come_end}
+-- `reader::skip_to_frame` meets its contract: the library finds the first byte that is sought, in the bytes from the point on. Assumes nothing.
+use mathlib.Core.Path.{ap, ◌∙◌}
+use native.Mathlib.Omega.{arith}
+use Rattle.std.proofs.Common.{rules, tests}
+use Rattle.std.proofs.lemmas.Iterator.{YieldsList-from_slice}
+use Rattle.std.proofs.lemmas.Iterator.Search.{position_from_yields_List}
+use Rattle.reader.specs.Search.{ahead}
+use Rattle.reader.proofs.Searching.{sought, ahead_position, to_the_end, beyond}
 use Rattle.reader.proofs.skip_to_frame.Goals as goal
 
-pub loop-i-init : goal.loop-i-init
-loop-i-init c = (search rules, come_here _ _)
-
-pub returns-then-stops : goal.returns-then-stops
-returns-then-stops c = search come_found
-
-pub loop-i-preserved : goal.loop-i-preserved
-loop-i-preserved c = (search rules, search come_on)
+pub returns-in_err-get : goal.returns-in_err-get
+returns-in_err-get c = c.from_residual.ensures ∙ beyond c.args.s.now c.args.from.0 (omega (arith, c.in_err-get.ensures.lookup))
 
 pub returns : goal.returns
-returns c = search come_end
+returns c =
+    position_from_yields_List sought _ _ c.position.result c.position.ensures.ran
+    (YieldsList-from_slice _ c.iter.ensures.rest) (λ x b q k. search (rules, tests))
+    ∙ ahead_position _ ∙ ap ahead (c.in_ok-get.ensures.lookup.0.2 ∙ to_the_end c.args.s.now c.args.from.0)

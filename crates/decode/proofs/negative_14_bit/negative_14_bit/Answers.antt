@@ -1,13 +1,11 @@
 -- `decode::negative_14_bit::negative_14_bit` meets its contract. Assumes nothing.
-use Rattle.reader.proofs.Reading.{num_num, num_cut, num_corrupt}
+use mathlib.Core.Path.{◌∙◌}
+use Rattle.reader.proofs.Reading.{made_ok, made_err, handed_on}
 use Rattle.decode.proofs.Made.{encoding3_of}
 use Rattle.decode.proofs.negative_14_bit.negative_14_bit.Goals as goal
 
-pub returns-in-Num : goal.returns-in-Num
-returns-in-Num c = rw encoding3_of (search num_num)
+pub returns-in_err-n : goal.returns-in_err-n
+returns-in_err-n c = handed_on c.from_residual.ensures.1 ∙ rw encoding3_of (made_err _ _ _ c.in_err-n.ensures)
 
-pub returns-in-Cut : goal.returns-in-Cut
-returns-in-Cut c = rw encoding3_of (search num_cut)
-
-pub returns-in-Corrupt : goal.returns-in-Corrupt
-returns-in-Corrupt c = rw encoding3_of (search num_corrupt)
+pub returns : goal.returns
+returns c = rw encoding3_of (made_ok _ _ _ c.in_ok-n.ensures c.minus_low_14.ensures)

@@ -1,31 +1,6 @@
--- `decode::tagged_variable::limit` meets its contract: each power computes. Assumes nothing.
-use mathlib.Core.Path.{◌≡◌}
-use native.Mathlib.Omega.{arith}
+-- `decode::tagged_variable::limit` meets its contract: the shift loses no bit. Assumes nothing.
+use Rattle.decode.proofs.Headed.{power}
 use Rattle.decode.proofs.tagged_variable.limit.Goals as goal
 
-pub returns-in-0 : goal.returns-in-0
-returns-in-0 c = rw c.in-0.is
-
-pub returns-in-1 : goal.returns-in-1
-returns-in-1 c = rw c.in-1.is
-
-pub returns-in-2 : goal.returns-in-2
-returns-in-2 c = rw c.in-2.is
-
-pub returns-in_default : goal.returns-in_default
-returns-in_default c = let e : c.args.n ≡ 3 = omega arith in rw e
-
-pub returns-in-4 : goal.returns-in-4
-returns-in-4 c = rw c.in-4.is
-
-pub returns-in-5 : goal.returns-in-5
-returns-in-5 c = rw c.in-5.is
-
-pub returns-in-6 : goal.returns-in-6
-returns-in-6 c = rw c.in-6.is
-
-pub returns-in-7 : goal.returns-in-7
-returns-in-7 c = rw c.in-7.is
-
-pub returns-in_default-n : goal.returns-in_default-n
-returns-in_default-n c = let e : c.args.n ≡ 8 = omega arith in rw e
+pub returns : goal.returns
+returns c = power c.args.n c.requires

@@ -1,7 +1,7 @@
--- `reader::Letter::from_byte` meets its contract: each letter computes, and what is none of the six is other. Assumes nothing.
+-- `reader::Kind::from_byte` meets its contract: each letter computes, and what is none of the six has no kind. Assumes nothing.
 use borrow.Author.Tests.{ne_eqb}
 use Rattle.reader.specs.Search.{letter_of}
-use Rattle.reader.proofs.Letter.from_byte.Goals as goal
+use Rattle.reader.proofs.Kind.from_byte.Goals as goal
 
 pub returns-in-69 : goal.returns-in-69
 unfolding letter_of

@@ -1,9 +1,9 @@
--- `tagged::tagged_32::values_of` meets its contract. Assumes nothing.
+-- `tagged::tagged_32::Encoding7::values_of` meets its contract. Assumes nothing.
 use native.Mathlib.Omega.{arith}
 use lib.Seq.{get_or-drop}
 use Rattle.bits.specs.Pattern.{signed}
 use Rattle.tagged.proofs.Numbers7.{size7_at, values7_at, signed_at}
-use Rattle.tagged.proofs.tagged_32.values_of.Goals as goal
+use Rattle.tagged.proofs.tagged_32.Encoding7SizedByHead.values_of.Goals as goal
 
 pub bounds-s-at : goal.bounds-s-at
 bounds-s-at c = omega (arith, size7_at 1 c.args.head c.in-1.is)

@@ -1,7 +1,7 @@
--- `tagged::tagged_16::values_of` meets its contract. Assumes nothing.
+-- `tagged::tagged_16::Encoding8::values_of` meets its contract. Assumes nothing.
 use native.Mathlib.Omega.{arith}
 use Rattle.tagged.proofs.Numbers8.{size8_is, values8_from}
-use Rattle.tagged.proofs.tagged_16.values_of.Goals as goal
+use Rattle.tagged.proofs.tagged_16.Encoding8SizedByHead.values_of.Goals as goal
 
 pub packed-requires : goal.packed-requires
 packed-requires c = omega (arith, size8_is c.args.head (omega arith))

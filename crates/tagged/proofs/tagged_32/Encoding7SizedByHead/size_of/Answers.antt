@@ -1,7 +1,7 @@
--- `tagged::tagged_32::size_of` meets its contract. Assumes nothing.
+-- `tagged::tagged_32::Encoding7::size_of` meets its contract. Assumes nothing.
 use native.Mathlib.Omega.{arith}
 use Rattle.tagged.proofs.Numbers7.{size7_at}
-use Rattle.tagged.proofs.tagged_32.size_of.Goals as goal
+use Rattle.tagged.proofs.tagged_32.Encoding7SizedByHead.size_of.Goals as goal
 
 pub returns-in-0 : goal.returns-in-0
 returns-in-0 c = omega (arith, size7_at 0 c.args.head c.in-0.is)
