@@ -1,7 +1,6 @@
 -- Whole frames are read by lists too: what stands before the fields, and then the fields by the lists of the definition.
 -- Of bytes, as a section is: then each field has its number.
-use Rattle.std.proofs.Common.{◌≡◌, ℕ, ◌<◌, ◌≤◌, List, length, drop, sym, refl, ap, ◌∙◌, arith}
-use mathlib.Core.Option.{Option, none, some}
+use Rattle.std.proofs.Common.{◌≡◌, ℕ, ◌<◌, ◌≤◌, List, length, drop, sym, refl, ap, ◌∙◌, arith, Option, None, Some}
 use Rattle.decode.specs.Variable.{encoding0, encoding1}
 use Rattle.plan.specs.Plan.{Shape, Rules}
 use Rattle.raws.specs.Groups.{patterned, numbers}
@@ -63,7 +62,7 @@ abbrev pub intra_by_lists : Shape → Rules → Past → Reader MainFrame
 intra_by_lists h r p = do
   i ← encoding1
   t ← encoding1
-  x ← fields_read (intra_fields h r) (values_in p.last) none
+  x ← fields_read (intra_fields h r) (values_in p.last) None
   give (record { mark = Intra; iteration = i; time = t; values = x.values })
 
 -- inter: the time's offset; then the fields, with the values of both frames
@@ -76,7 +75,7 @@ inter_by_lists h r p = do
 -- slow: the fields alone, with no history
 abbrev pub slow_by_lists : Shape → Rules → Reader (List ℕ)
 slow_by_lists h r = do
-  x ← fields_read (slow_fields h r) none none
+  x ← fields_read (slow_fields h r) None None
   give x.values
 
 module _ (h : Shape) (r : Rules) (p : Past) where
@@ -88,7 +87,7 @@ module _ (h : Shape) (r : Rules) (p : Past) where
       then_over (intra_frame h r p) _ _
       (λ t e be.
       over_map (intra_frame h r p) (raw i t) (numbers h.intra) e
-      ∙ by_lists (intra_fields h r) (values_in p.last) none (λ vs. record { mark = Intra; iteration = i; time = t; values = vs }) alike few e be)
+      ∙ by_lists (intra_fields h r) (values_in p.last) None (λ vs. record { mark = Intra; iteration = i; time = t; values = vs }) alike few e be)
       encoding1 d bd)
       encoding1 c b
 
@@ -102,7 +101,7 @@ module _ (h : Shape) (r : Rules) (p : Past) where
       (λ vs. record { mark = Inter; iteration = iteration_after r p; time = time_after p t; values = vs }) alike few d bd)
       (patterned encoding0) c b
 
-pub slow_by_lists_law : (h : Shape) (r : Rules) (es : List ℕ) → h.slow ≡ some es → length r.slow ≡ length es → length es ≤ 62 → (c : List ℕ) → Bytes c
+pub slow_by_lists_law : (h : Shape) (r : Rules) (es : List ℕ) → h.slow ≡ Some es → length r.slow ≡ length es → length es ≤ 62 → (c : List ℕ) → Bytes c
     → slow_read h r c ≡ slow_by_lists h r c
 unfolding slow_read slow_raw raw slow_values slow_fields
 slow_by_lists_law h r es e alike few c b =
@@ -110,4 +109,4 @@ slow_by_lists_law h r es e alike few c b =
     ap (λ l. over (slow_values h r) (slow_raw l c)) e
     ∙ over_map (slow_values h r) (raw 0 0) (numbers es) c
     ∙ ap (λ l. over (λ vs. slow_values h r (raw 0 0 vs)) (numbers l c)) (sym codes)
-    ∙ by_lists (slow_fields h r) none none (λ vs. vs) (rw codes alike) (rw codes few) c b
+    ∙ by_lists (slow_fields h r) None None (λ vs. vs) (rw codes alike) (rw codes few) c b

@@ -1,6 +1,5 @@
 -- What a frame takes from the frames before it: a history that none of its fields' predictors reads has no part in it.
-use Rattle.std.proofs.Common.{◌≡◌, ℕ, true, false, List, [], ◌∷◌, ◌++◌, length, take, refl, ap, ◌∙◌, ap₂}
-use mathlib.Core.Option.{Option, none, some}
+use Rattle.std.proofs.Common.{◌≡◌, ℕ, true, false, List, [], ◌∷◌, ◌++◌, length, take, refl, ap, ◌∙◌, ap₂, Option, None, Some}
 use Rattle.plan.specs.Plan.{Shape, Rules}
 use Rattle.predictor.specs.Histories.{reads_last, reads_older, none_reads}
 use Rattle.predictor.specs.Predictors.{applied}
@@ -45,7 +44,7 @@ pub intra_alone : (h : Shape) (r : Rules) (p p' : Past) (x : Raw) → none_reads
 unfolding intra_frame intra_fields
 intra_alone h r p p' x e =
     ap (main_frame Intra x.iteration x.time)
-    (values_last_unread (intra_fields h r) (values_in p.last) none (values_in p'.last) none x.fields e)
+    (values_last_unread (intra_fields h r) (values_in p.last) None (values_in p'.last) None x.fields e)
 
 -- the frame before the last has no part in an intra frame, whatever its lists
 pub intra_no_older : (h : Shape) (r : Rules) (l o o' : Option Body) (x : Raw)
@@ -55,16 +54,16 @@ intra_no_older h r l o o' x = refl
 
 -- behind an intra frame the time goes by that frame alone
 pub time_behind_intra : (l : Body) (o o' : Option Body) (x : ℕ) → l.inter ≡ false
-    → time_after (past_of (some l) o) x ≡ time_after (past_of (some l) o') x
+    → time_after (past_of (Some l) o) x ≡ time_after (past_of (Some l) o') x
 unfolding time_after behind_inter
 time_behind_intra l o o' x e = rw e
 
 -- so the older one has no part in an inter frame there, if the inter lists use 2 and 3 in no field after time
 pub inter_behind_intra : (h : Shape) (r : Rules) (l : Body) (o o' : Option Body) (x : Raw) → none_reads reads_older r.inter ≡ true → l.inter ≡ false
-    → inter_frame h r (past_of (some l) o) x ≡ inter_frame h r (past_of (some l) o') x
+    → inter_frame h r (past_of (Some l) o) x ≡ inter_frame h r (past_of (Some l) o') x
 unfolding inter_frame inter_fields iteration_after skipped_after
 inter_behind_intra h r l o o' x e f =
-    let p = past_of (some l) o in
+    let p = past_of (Some l) o in
     let times = time_behind_intra l o o' x.time f in
-    let values = values_older_unread (inter_fields h r p) (values_in (some l)) (values_in o) (values_in o') x.fields e in
+    let values = values_older_unread (inter_fields h r p) (values_in (Some l)) (values_in o) (values_in o') x.fields e in
     ap₂ (main_frame Inter (iteration_after r p)) times values

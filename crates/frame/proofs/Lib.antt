@@ -1,4 +1,3 @@
-pub mod Bodies
 pub mod ByLists
 pub mod Ends
 pub mod Histories

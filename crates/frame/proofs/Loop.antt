@@ -1,23 +1,14 @@
 -- The loop over the fields: the values so far, and the rest of the raw numbers, make the values of all.
-use Rattle.std.proofs.Common.{◌≡◌, ℕ, ◌+◌, ◌-◌, ◌<◌, ◌≤◌, min, Bool, true, false, ltb, List, [], ◌∷◌, ◌++◌, length, get_or, take}
+use Rattle.std.proofs.Common.{◌≡◌, ℕ, ◌+◌, ◌-◌, ◌<◌, ◌≤◌, min, Bool, true, false, ltb, List, [], ◌∷◌, ◌++◌, length, get_or, take, Option}
 use Rattle.std.proofs.Common.{drop, set, replicate, sym, refl, ap, ◌∙◌, ap₂, zero-add, add-one, arith, length-set}
 use Rattle.std.proofs.Common.{take-append-drop, drop_of_length-le, length-take, length-take-le, get_or-drop, drop-cons}
 use Rattle.std.proofs.Common.{get_or-take, drop-drop, take-suc-set, drop-set-lt, ltb-false, ltb-true}
-use mathlib.Core.Option.{Option}
 use lib.ListN.{get_or-replicate, get_or-eq_default}
 use lib.Seq.{sets-eq}
-use Rattle.predictor.specs.Owes.{given}
 use Rattle.predictor.specs.Predictors.{prediction, applied}
 use Rattle.predictor.specs.Sign.{is_signed}
 use Rattle.reader.specs.Place.{padded}
-use Rattle.frame.specs.Past.{mapped}
 use Rattle.frame.specs.Values.{Fields, nth, prediction_at, values_behind, values_of}
-
--- field i of an earlier frame is there if the frame is
-nth_given : (i : ℕ) (t : Bool) (vs : List ℕ) → nth i (given t vs) ≡ given t (get_or vs i 0)
-unfolding nth given mapped
-nth_given i true vs = refl
-nth_given i false vs = refl
 
 abbrev rooms : List ℕ
 rooms = replicate 62 0
@@ -88,12 +79,11 @@ module _ (f : Fields) (last older : Option (List ℕ)) (raws : List ℕ) {i : �
       ∙ ap (padded 62) done
 
 -- what `apply` gives for field i is its value
-pub stands_on : (h g : Bool) (l o : List ℕ) {f : Fields} {raws : List ℕ} {i room : ℕ} {values : List ℕ} {signed : Bool} {x : ℕ}
-    → Stands f (given h l) (given g o) raws i values → room ≡ min f.motor 61 → signed ≡ is_signed (get_or f.encodings i 0)
-    → x ≡ applied (get_or raws i 0)
-    (prediction signed f.around (given h (get_or l i 0)) (given g (get_or o i 0)) (get_or values room 0) (get_or f.predictors i 0))
-    → (i < length f.predictors) × (length f.predictors ≤ 62) × (length raws ≡ 62) → Stands f (given h l) (given g o) raws (i + 1) (set values i x)
+pub stands_on : (f : Fields) (last older : Option (List ℕ)) {raws : List ℕ} {i room : ℕ} {values : List ℕ} {signed : Bool} {l o : Option ℕ} {x : ℕ}
+    → Stands f last older raws i values → room ≡ min f.motor 61 → signed ≡ is_signed (get_or f.encodings i 0) → l ≡ nth i last → o ≡ nth i older
+    → x ≡ applied (get_or raws i 0) (prediction signed f.around l o (get_or values room 0) (get_or f.predictors i 0))
+    → (i < length f.predictors) × (length f.predictors ≤ 62) × (length raws ≡ 62) → Stands f last older raws (i + 1) (set values i x)
 unfolding prediction_at
-stands_on h g l o {f} {raws} {i} {room} {values} so r s e bounds =
+stands_on f last older {raws} {i} {room} {values} so r s a b e bounds =
     let motor = motor_read values i f.motor so.zeros (omega arith) so.long in
-    stands_next f _ _ raws so (rw (nth_given i h l, nth_given i g o, ← s, ← motor, ← r) e) bounds
+    stands_next f _ _ raws so (rw (← s, ← a, ← b, ← motor, ← r) e) bounds

@@ -1,7 +1,6 @@
 -- A frame's own values: a prediction reads them below its field, there are as many as raw numbers, and each number keeps to its bits.
-use Rattle.std.proofs.Common.{◌≡◌, ℕ, zero, suc, ◌+◌, ◌-◌, ◌^◌, ◌<◌, ◌≤◌, Bool, true, false, eqb, List, [], ◌∷◌, ◌++◌, length}
+use Rattle.std.proofs.Common.{◌≡◌, ℕ, zero, suc, ◌+◌, ◌-◌, ◌^◌, ◌<◌, ◌≤◌, Bool, true, false, eqb, List, [], ◌∷◌, ◌++◌, length, Option}
 use Rattle.std.proofs.Common.{get_or, take, ℤ, pos, negsuc, refl, ◌∙◌, arith, length-append, eqb-true}
-use mathlib.Core.Option.{Option}
 use lib.ListN.{get_or-append}
 use Rattle.bits.specs.Pattern.{wrap}
 use Rattle.plan.specs.Plan.{Shape, Rules}

@@ -1,6 +1,5 @@
 -- What a later frame reads of the two main frames before it (document 01, "Predictors": the two histories, last and older).
-use Rattle.std.specs.Prelude.{ℕ, Bool, true, false, List, []}
-use Rattle.std.proofs.Math.Option.{Option, none, some}
+use Rattle.std.specs.Prelude.{ℕ, Bool, true, false, List, [], Option, None, Some}
 use Rattle.reader.specs.Place.{padded}
 use Rattle.frame.specs.declared.MainFrame.{MainFrame}
 use Rattle.frame.specs.declared.Mark.{Mark}
@@ -19,18 +18,13 @@ pub record Past : Type 0 where
 abbrev pub past_of : (last older : Option Body) → Past
 past_of last older = record { last = last; older = older }
 
--- a part of a frame, if there is the frame
-unfoldable pub mapped : {A B : Type 0} → (A → B) → Option A → Option B
-mapped f none = none
-mapped f (some x) = some (f x)
-
 abbrev body : Bool → MainFrame → Body
 body inter f = record { inter = inter; iteration = f.iteration; time = f.time; values = f.values }
 
 abbrev marked : Mark → MainFrame → Option Body
-marked Absent f = none
-marked Intra f = some (body false f)
-marked Inter f = some (body true f)
+marked Absent f = None
+marked Intra f = Some (body false f)
+marked Inter f = Some (body true f)
 
 unfoldable pub body_of : MainFrame → Option Body
 body_of f = marked f.mark f

@@ -1,11 +1,10 @@
 -- The iteration and the time of an inter frame (document 01, "Predictors").
-use Rattle.std.specs.Prelude.{ℕ, ◌+◌, ◌-◌, ◌^◌, min, cond, ℤ, pos, negsuc, ◌+ℤ◌}
-use Rattle.std.proofs.Math.Option.{Option, none, some}
+use Rattle.std.specs.Prelude.{ℕ, ◌+◌, ◌-◌, ◌^◌, min, cond, ℤ, pos, negsuc, ◌+ℤ◌, Option, None, Some, option_map}
 use Rattle.bits.specs.Pattern.{wrap, meant}
 use Rattle.plan.specs.Plan.{Rules}
 use Rattle.predictor.specs.Predictors.{or_zero, from_both, straight}
 use Rattle.predictor.specs.Sign.{up_to}
-use Rattle.frame.specs.Past.{Body, Past, mapped}
+use Rattle.frame.specs.Past.{Body, Past}
 
 -- how many iterations were skipped before an inter frame: with the interval 1/1 none
 unfoldable pub skipped_after : Rules → Past → ℕ
@@ -13,7 +12,7 @@ skipped_after r p = 0
 
 -- iteration is 1 + last's or 0, wrapping at 32 bits
 unfoldable pub iteration_after : Rules → Past → ℕ
-iteration_after r p = wrap (skipped_after r p + 1 + or_zero (mapped (λ b. b.iteration) p.last))
+iteration_after r p = wrap (skipped_after r p + 1 + or_zero (option_map (λ b. b.iteration) p.last))
 
 -- the 64-bit top
 unfoldable pub top : ℕ
@@ -26,11 +25,11 @@ held (negsuc n) = 0
 
 -- older used only if last was inter
 unfoldable pub behind_inter : (last older : Option Body) → Option Body
-behind_inter none o = none
-behind_inter (some l) o = cond l.inter o none
+behind_inter None o = None
+behind_inter (Some l) o = cond l.inter o None
 
 abbrev pub time_in : Option Body → Option ℤ
-time_in b = mapped (λ x. pos x.time) b
+time_in b = option_map (λ x. pos x.time) b
 
 -- predictor 2 in 64 bits
 abbrev pub straight_time : (last older : Option ℤ) → ℤ

@@ -1,10 +1,8 @@
 -- The values of a frame's fields, in field order: each is its raw number and its prediction (document 01, "Predictors").
-use Rattle.std.specs.Prelude.{ℕ, List, [], ◌∷◌, ◌++◌, length, take, slice_index}
-use Rattle.std.proofs.Math.Option.{Option}
+use Rattle.std.specs.Prelude.{ℕ, List, [], ◌∷◌, ◌++◌, length, take, slice_index, Option, option_map}
 use Rattle.predictor.specs.declared.Surroundings.{Surroundings}
 use Rattle.predictor.specs.Predictors.{prediction, applied}
 use Rattle.predictor.specs.Sign.{is_signed}
-use Rattle.frame.specs.Past.{mapped}
 
 -- what the fields of one kind of frame go by: `motor` is the place of `motor[0]` among them, or their number where it is none of them
 pub record Fields : Type 0 where
@@ -15,7 +13,7 @@ pub record Fields : Type 0 where
 
 -- field i of an earlier frame
 unfoldable pub nth : ℕ → Option (List ℕ) → Option ℕ
-nth i values = mapped (λ vs. slice_index vs i) values
+nth i values = option_map (λ vs. slice_index vs i) values
 
 module _ (f : Fields) (last older : Option (List ℕ)) where
   -- the prediction for the field behind the frame's own values so far: signed by its encoding, with its own two histories

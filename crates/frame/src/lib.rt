@@ -2,23 +2,27 @@
 // The second half of the Rust's frame/mod.rs, with parse_intra and parse_inter of main/def.rs.
 #![tactic(auto)]
 
-ghost use Rattle.std.specs.Prelude.{◌≡◌, ℕ, ◌+◌, ◌≤◌, min, length, replicate};
+ghost use Rattle.std.specs.Prelude.{◌≡◌, ◌<◌, ◌≤◌, ◌+◌, ℕ, List, min, length, take, option_copied, option_map};
+ghost use Rattle.std.specs.Option.{is_some};
 ghost use Rattle.bits.specs.Pattern.{wrap};
-ghost use Rattle.predictor.specs.Owes.{given};
+ghost use Rattle.plan.specs.Plan.{fields};
 ghost use Rattle.predictor.specs.Predictors.{or_zero};
-ghost use Rattle.frame.specs.Earlier.{is_there, fields_by, laid};
+ghost use Rattle.frame.specs.Earlier.{fields_by, fields_of, laid};
+ghost use Rattle.frame.specs.Frames.{values_in};
 ghost use Rattle.frame.specs.Owes.{AbsentOwes, HeadOwes, WithOwes, IntraOwes, InterOwes, SlowOwes};
 ghost use Rattle.frame.specs.Parts.{frame_of, raw_of};
+ghost use Rattle.frame.specs.Past.{body_of};
+ghost use Rattle.frame.specs.Values.{nth};
 
 use crate::time::time_after;
-use plan::Definition;
+use plan::{Definition, Main, Numbers};
 use predictor::{Before, Surroundings};
 use raws::Raw;
 
 pub mod fields;
 mod time;
 
-// Whether there is a frame, and of which kind.
+// Whether there is a frame, and of which kind. No Option of a frame: stored states of C keep the values of an absent one.
 #[derive(Clone, Copy)]
 pub enum Mark {
     Absent,
@@ -27,6 +31,7 @@ pub enum Mark {
 }
 
 // A main frame: the Rust's RawMainFrame, with its Option as a mark. Values behind the last field are 0.
+// Its head stands in it part by part, since `no_frame`, `body_of` and the stored layout name the parts.
 #[derive(Clone, Copy)]
 pub struct MainFrame {
     pub mark: Mark,
@@ -47,18 +52,44 @@ impl Head {
     pub fn with(self, values: [u32; 62]) -> MainFrame
         ensures { WithOwes self values result }
     {
-        let mark = self.mark;
         MainFrame {
-            mark,
+            mark: self.mark,
             iteration: self.iteration,
             time: self.time,
             values,
         }
     }
+
+    // Whether there is the frame.
+    #[tactic(auto, unfolding(crate::specs::Past::body_of))]
+    fn is_there(self) -> bool
+        ensures { (values : List ℕ) → result ≡ is_some (body_of (frame_of self values)) }
+    {
+        !matches!(self.mark, Mark::Absent)
+    }
+
+    // Its values, which stand in lent rooms, if there is the frame.
+    #[tactic(auto, unfolding(crate::specs::Past::body_of))]
+    fn values(self, lent: &[u32; 62]) -> Option<&[u32; 62]>
+        ensures { option_copied result ≡ values_in (body_of (frame_of self lent.now)) }
+    {
+        self.is_there().then_some(lent)
+    }
+
+    // Predictor 6 of its iteration, by a function of its own: with one caller `predict` is compiled into the loop over the fields.
+    #[tactic(auto, unfolding(crate::specs::Past::body_of, bits::specs::Pattern::wrap, predictor::specs::Predictors::or_zero))]
+    fn next_iteration(self, skipped: u32) -> u32
+        ensures { (values : List ℕ) →
+            result ≡ wrap (skipped + 1 + or_zero (option_map (λ b. b.iteration) (body_of (frame_of self values)))) }
+    {
+        let last = self.is_there().then_some(self.iteration);
+        skipped.wrapping_add(1).wrapping_add(last.unwrap_or(0))
+    }
 }
 
 impl MainFrame {
     // No frame: what stands before a section's first.
+    #[tactic(auto, unfolding(crate::specs::Past::no_frame))]
     pub fn absent() -> MainFrame
         ensures { AbsentOwes result }
     {
@@ -73,69 +104,88 @@ impl MainFrame {
     pub fn head(self) -> Head
         ensures { HeadOwes self result }
     {
-        let mark = self.mark;
         Head {
-            mark,
+            mark: self.mark,
             iteration: self.iteration,
             time: self.time,
         }
     }
 }
 
-fn is_there(mark: Mark) -> bool
-    ensures { result ≡ is_there mark }
-{
-    match mark {
-        Mark::Absent => false,
-        Mark::Intra => true,
-        Mark::Inter => true,
-    }
+// What the fields of one kind of frame go by.
+#[derive(Clone, Copy)]
+struct FieldLists<'a> {
+    predictors: &'a [u8],
+    encodings: &'a [u8],
+    motor: usize,
+    around: Surroundings,
 }
 
-fn lesser(a: usize, b: usize) -> usize
-    ensures { result ≡ min a b }
+// Field i of an earlier frame, if there is the frame.
+#[tactic(auto, unfolding(crate::specs::Values::nth))]
+fn nth(i: usize, values: Option<&[u32; 62]>) -> Option<u32>
+    requires { i < 62 }
+    ensures { result ≡ nth i (option_copied values.entry) }
 {
-    if a < b { a } else { b }
+    values.map(|values| values[i])
 }
 
 // Puts the values into their rooms, in field order. Until a field has its value its room is 0,
 // so that motor[0] is read there whether it comes earlier or not at all.
 fn values_of(
-    predictors: &[u8],
-    encodings: &[u8],
-    motor: usize,
-    around: Surroundings,
-    raws: &[u32],
-    has_last: bool,
-    last: &[u32],
-    has_older: bool,
-    older: &[u32],
-    values: &mut [u32],
+    fields: FieldLists,
+    last: Option<&[u32; 62]>,
+    older: Option<&[u32; 62]>,
+    raws: &[u32; 62],
+    values: &mut [u32; 62],
 )
-    requires predictors_len { (length predictors.now ≡ length encodings.now) × (length predictors.now ≤ 62) }
-    requires raws_len { (length raws.now ≡ 62) × (length last.now ≡ 62) × (length older.now ≡ 62) }
-    requires values_clear { values.old ≡ replicate 62 0 }
-    ensures { values.new ≡
-        laid (fields_by predictors.now encodings.now motor around)
-        (given has_last last.now) (given has_older older.now) raws.now }
+    requires { (length fields.predictors.now ≡ length fields.encodings.now) × (length fields.predictors.now ≤ 62) }
+    ensures { values.new ≡ laid (fields_of fields.entry) (option_copied last.entry) (option_copied older.entry) raws.now }
 {
-    let room = lesser(motor, 61);
-    let mut i = 0;
-    while i < predictors.len() {
+    raws::clear(values);
+    let room = fields.motor.min(61);
+    for i in 0..fields.predictors.len() {
         let before = Before {
-            has_last,
-            last: last[i],
-            has_older,
-            older: older[i],
+            last: nth(i, last),
+            older: nth(i, older),
         };
-        let signed = predictor::is_signed(encodings[i]);
-        let value = predictor::apply(predictors[i], raws[i], signed, around, before, values[room]);
-        values[i] = value;
-        i += 1;
+        let signed = predictor::is_signed(fields.encodings[i]);
+        values[i] = predictor::apply(
+            fields.predictors[i],
+            raws[i],
+            signed,
+            fields.around,
+            before,
+            values[room],
+        );
     }
 }
 
-// An intra frame. The frame before the last has no part in it, so that the last values are lent in its place.
+// The fields of a main frame, by two of its definition's lists. Nothing is skipped outside inter, nor there with the interval 1/1.
+fn main_fields<'a>(
+    main: &Main,
+    numbers: Numbers,
+    predictors: &'a [u8; 62],
+    encodings: &'a [u8; 62],
+) -> FieldLists<'a>
+    ensures { fields_of result ≡
+        fields_by (take (fields main.now) predictors.now) (take (fields main.now) encodings.now)
+        (min main.now.motor (fields main.now)) (record { numbers = numbers; skipped = 0 }) }
+{
+    let n = main.fields();
+    let k = n.min(62);
+    FieldLists {
+        predictors: &predictors[..k],
+        encodings: &encodings[..k],
+        motor: main.motor.min(n),
+        around: Surroundings {
+            numbers,
+            skipped: 0,
+        },
+    }
+}
+
+// An intra frame. The frame before the last has no part in it.
 pub fn intra_in(
     d: Definition,
     last: Head,
@@ -147,49 +197,20 @@ pub fn intra_in(
 ) -> Head
     ensures { IntraOwes d (frame_of last last_values.now) (raw_of iteration time raws.now) (frame_of result values.new) }
 {
-    raws::clear(values);
     let main = d.main;
-    let predictors = main.intra_predictors;
-    let encodings = main.intra_encodings;
-    let numbers = d.numbers;
-    let around = Surroundings {
-        numbers,
-        skipped: 0,
-    };
-    let last_mark = last.mark;
-    let has_last = is_there(last_mark);
-    let has_older = false;
-    let n = main.fields();
-    let k = lesser(n, 62);
-    let motor = lesser(main.motor, n);
-    values_of(
-        &predictors[..k],
-        &encodings[..k],
-        motor,
-        around,
-        raws,
-        has_last,
-        last_values,
-        has_older,
-        last_values,
-        values,
+    let fields = main_fields(
+        &main,
+        d.numbers,
+        &main.intra_predictors,
+        &main.intra_encodings,
     );
+    let older = None;
+    values_of(fields, last.values(last_values), older, raws, values);
     Head {
         mark: Mark::Intra,
         iteration,
         time: time as u64,
     }
-}
-
-// Predictor 6 of the last frame's iteration, by a function of its own: with one caller `predict` is compiled into the loop over the fields.
-fn next_iteration(skipped: u32, mark: Mark, iteration: u32) -> u32
-    ensures { result ≡ wrap (skipped + 1 + or_zero (given (is_there mark) iteration)) }
-{
-    let step = std::num::wrapping_add_u32(skipped, 1);
-    if is_there(mark) {
-        return std::num::wrapping_add_u32(step, iteration);
-    }
-    step
 }
 
 // An inter frame. Its raw numbers have no iteration, so its promise is for any.
@@ -205,38 +226,24 @@ pub fn inter_in(
 ) -> Head
     ensures { (k : ℕ) → InterOwes d (frame_of last last_values.now) (frame_of older older_values.now) (raw_of k time raws.now) (frame_of result values.new) }
 {
-    raws::clear(values);
     let main = d.main;
-    let predictors = main.inter_predictors;
-    let encodings = main.inter_encodings;
-    let numbers = d.numbers;
-    let around = Surroundings {
-        numbers,
-        skipped: 0,
-    };
-    let last_mark = last.mark;
-    let older_mark = older.mark;
-    let has_last = is_there(last_mark);
-    let has_older = is_there(older_mark);
-    let n = main.fields();
-    let k = lesser(n, 62);
-    let motor = lesser(main.motor, n);
+    let fields = main_fields(
+        &main,
+        d.numbers,
+        &main.inter_predictors,
+        &main.inter_encodings,
+    );
     values_of(
-        &predictors[..k],
-        &encodings[..k],
-        motor,
-        around,
+        fields,
+        last.values(last_values),
+        older.values(older_values),
         raws,
-        has_last,
-        last_values,
-        has_older,
-        older_values,
         values,
     );
     Head {
         mark: Mark::Inter,
-        iteration: next_iteration(around.skipped, last_mark, last.iteration),
-        time: time_after(last_mark, last.time, older_mark, older.time, time),
+        iteration: last.next_iteration(fields.around.skipped),
+        time: time_after(last, older, time),
     }
 }
 
@@ -244,28 +251,19 @@ pub fn inter_in(
 pub fn slow_in(d: Definition, raws: &[u32; 62], values: &mut [u32; 62])
     ensures { (k t : ℕ) → SlowOwes d (raw_of k t raws.now) values.new }
 {
-    raws::clear(values);
     let slow = d.slow;
-    let predictors = slow.predictors;
     let encodings = slow.encodings;
-    let k = lesser(slow.n, 16);
-    let numbers = d.numbers;
-    let around = Surroundings {
-        numbers,
-        skipped: 0,
+    let k = slow.n.min(16);
+    let fields = FieldLists {
+        predictors: &slow.predictors[..k],
+        encodings: &encodings[..k],
+        motor: k,
+        around: Surroundings {
+            numbers: d.numbers,
+            skipped: 0,
+        },
     };
-    values_of(
-        &predictors[..k],
-        &encodings[..k],
-        k,
-        around,
-        raws,
-        false,
-        raws,
-        false,
-        raws,
-        values,
-    );
+    values_of(fields, None, None, raws, values);
 }
 
 // The same by value: an intra frame, an inter frame, and the values of a slow frame.

@@ -1,5 +1,5 @@
 -- What a later frame reads of a history: of the two frames alone, so that what else a frame may come to hold changes nothing.
-use mathlib.Core.Option.{none}
+use Rattle.std.specs.Prelude.{None}
 use mathlib.Core.Path.{◌≡◌, refl}
 use Rattle.frame.specs.declared.MainFrame.{MainFrame}
 use Rattle.frame.specs.Past.{past_of, body_of, no_frame}
@@ -12,6 +12,6 @@ unfolding past pushed
 past_pushed h f = refl
 
 -- before a section's first main frame: none
-pub past_empty : past empty ≡ past_of none none
+pub past_empty : past empty ≡ past_of None None
 unfolding past empty body_of no_frame
 past_empty = refl

@@ -15,22 +15,16 @@ pub struct History {
 }
 
 // Whether there is no older frame without a last.
+#[tactic(auto, unfolding(crate::specs::History::in_order))]
 fn are_in_order(last: Mark, older: Mark) -> bool
     ensures { result ≡ in_order last older }
 {
-    match last {
-        Mark::Absent => match older {
-            Mark::Absent => true,
-            Mark::Intra => false,
-            Mark::Inter => false,
-        },
-        Mark::Intra => true,
-        Mark::Inter => true,
-    }
+    !matches!((last, older), (Mark::Absent, Mark::Intra | Mark::Inter))
 }
 
 impl History {
     // Before a section's first main frame.
+    #[tactic(auto, unfolding(crate::specs::History::empty))]
     pub fn empty() -> History
         ensures { EmptyOwes result }
     {
@@ -41,29 +35,27 @@ impl History {
     }
 
     // An accepted main frame becomes last, and last becomes older.
+    #[tactic(auto, unfolding(crate::specs::History::pushed))]
     pub fn pushed(self, frame: MainFrame) -> History
         ensures { PushedOwes self frame result }
     {
-        let was_last = self.last;
         History {
             last: frame,
-            older: was_last,
+            older: self.last,
         }
     }
 
     // Whether a walk may have it.
+    #[tactic(auto, unfolding(crate::specs::History::sound))]
     pub fn is_sound(self) -> bool
         ensures { IsSoundOwes self result }
     {
-        let last = self.last;
-        let older = self.older;
-        let last_mark = last.mark;
-        let older_mark = older.mark;
-        are_in_order(last_mark, older_mark)
+        are_in_order(self.last.mark, self.older.mark)
     }
 }
 
 // The history but for the values of its frames, which stand beside it in lent rooms.
+// No generic pair for both: the definitions of `specs/` from here to imports name the record History, and `pushed` is one line.
 #[derive(Clone, Copy)]
 pub struct Heads {
     pub last: Head,
@@ -83,11 +75,9 @@ impl Heads {
     pub fn with(self, last: [u32; 62], older: [u32; 62]) -> History
         ensures { WithOwes self last older result }
     {
-        let last_head = self.last;
-        let older_head = self.older;
         History {
-            last: last_head.with(last),
-            older: older_head.with(older),
+            last: self.last.with(last),
+            older: self.older.with(older),
         }
     }
 }
@@ -96,11 +86,9 @@ impl History {
     pub fn heads(self) -> Heads
         ensures { HeadsOwes self result }
     {
-        let last = self.last;
-        let older = self.older;
         Heads {
-            last: last.head(),
-            older: older.head(),
+            last: self.last.head(),
+            older: self.older.head(),
         }
     }
 }
@@ -117,7 +105,7 @@ pub fn push_values(values: &[u32; 62], last: &mut [u32; 62], older: &mut [u32; 6
 pub fn push(h: &mut History, frame: MainFrame)
     ensures { PushedOwes h.old frame h.new }
 {
-    *h = History::pushed(*h, frame);
+    *h = h.pushed(frame);
 }
 
 // The history by value again, by way of `push`: what programs call.

@@ -1,7 +1,7 @@
 -- Which histories each predictor reads: what is said not to be read has no part in the prediction, and what is said to be read does.
-use Rattle.std.proofs.Common.{◌≡◌, ℕ, zero, suc, Bool, true, false, not, ◌||◌, eqb, List, [], ◌∷◌, get_or, sym, refl, subst, arith, eqb-true}
+use Rattle.std.proofs.Common.{Option, None, Some, ◌≡◌, ℕ, zero, suc, Bool, true, false, not}
+use Rattle.std.proofs.Common.{◌||◌, eqb, List, [], ◌∷◌, get_or, sym, refl, subst, arith, eqb-true}
 use mathlib.Core.Bool.{false≢true, and-eq-true_iff}
-use mathlib.Core.Option.{Option, none, some}
 use borrow.Author.Tests.{not-true}
 use Rattle.bits.specs.Pattern.{wrap, pattern, lowered, signed, meant}
 use Rattle.plan.specs.Known.{among}
@@ -69,10 +69,10 @@ Differ signed around motor last older last' older' p = prediction signed around 
 -- one that reads last says another thing of a last 0 than of a last 1
 pub last_read : (p : ℕ) → reads_last p ≡ true
     → (signed : Bool) (around : Surroundings) (motor : ℕ)
-    → prediction signed around (some 0) none motor p ≡ prediction signed around (some 1) none motor p → ⊥
+    → prediction signed around (Some 0) None motor p ≡ prediction signed around (Some 1) None motor p → ⊥
 unfolding reads_last prediction or_zero meaning from_both wrap
 last_read p e signed around motor =
-    by_item (Differ signed around motor (some 0) none (some 1) none) _ p e (λ f. omega arith, (own, (own, (λ f. omega arith, tt))))
+    by_item (Differ signed around motor (Some 0) None (Some 1) None) _ p e (λ f. omega arith, (own, (own, (λ f. omega arith, tt))))
   where
     own : pattern (value_of signed 0) ≡ pattern (value_of signed 1) → ⊥
     own f = omega (arith, pattern_value signed 0 (omega arith), pattern_value signed 1 (omega arith))
@@ -80,12 +80,12 @@ last_read p e signed around motor =
 -- one that reads older says another thing, with last 4, of an older 0 than of an older 2
 pub older_read : (p : ℕ) → reads_older p ≡ true
     → (signed : Bool) (around : Surroundings) (motor : ℕ)
-    → prediction signed around (some 4) (some 0) motor p ≡ prediction signed around (some 4) (some 2) motor p → ⊥
+    → prediction signed around (Some 4) (Some 0) motor p ≡ prediction signed around (Some 4) (Some 2) motor p → ⊥
 unfolding reads_older prediction meaning from_both value_of meant signed lowered straight up_to fits half mean pattern wrap
 older_read p e true around motor =
-    by_item (Differ true around motor (some 4) (some 0) (some 4) (some 2)) _ p e (λ f. omega arith, (λ f. omega arith, tt))
+    by_item (Differ true around motor (Some 4) (Some 0) (Some 4) (Some 2)) _ p e (λ f. omega arith, (λ f. omega arith, tt))
 older_read p e false around motor =
-    by_item (Differ false around motor (some 4) (some 0) (some 4) (some 2)) _ p e (λ f. omega arith, (λ f. omega arith, tt))
+    by_item (Differ false around motor (Some 4) (Some 0) (Some 4) (Some 2)) _ p e (λ f. omega arith, (λ f. omega arith, tt))
 
 -- ## A list of predictors
 

@@ -1,6 +1,5 @@
 -- The value of a raw number and a prediction, and back: neither loses anything, and 32 bits hold all of it.
-use Rattle.std.proofs.Common.{◌≡◌, ℕ, zero, suc, ◌+◌, ◌^◌, ◌<◌, Bool, true, false, cond, eqb, pos, ◌-ℤ◌, neg_ℤ, sym, ap, ◌∙◌, arith}
-use mathlib.Core.Option.{Option}
+use Rattle.std.proofs.Common.{Option, ◌≡◌, ℕ, zero, suc, ◌+◌, ◌^◌, ◌<◌, Bool, true, false, cond, eqb, pos, ◌-ℤ◌, neg_ℤ, sym, ap, ◌∙◌, arith}
 use lib.IntN.{ -ℤ-+ℤ_cancel}
 use Rattle.bits.specs.Pattern.{wrap, pattern}
 use Rattle.bits.proofs.Laws.{by_test, wrap_id, pattern_below, pattern_add}

@@ -1,27 +1,24 @@
 -- What each predictor says of a field, and the value that a raw number and a prediction make (document 01, "Predictors").
-use Rattle.std.specs.Prelude.{ℕ, suc, ◌+◌, ◌/◌, Bool, cond, ℤ, pos, negsuc, ◌+ℤ◌, ◌-ℤ◌, ◌*ℤ◌, neg_ℤ, ◌==◌}
-use Rattle.std.proofs.Math.Option.{Option, none, some}
+use Rattle.std.specs.Prelude.{ℕ, suc, ◌+◌, ◌/◌, Bool, cond, ℤ, pos, negsuc, ◌+ℤ◌, ◌-ℤ◌, ◌*ℤ◌, neg_ℤ, ◌==◌, Option, Some, None}
 use Rattle.bits.specs.Pattern.{wrap, pattern}
-use Rattle.plan.specs.declared.HeaderNumber.{HeaderNumber}
-use Rattle.plan.specs.declared.HeaderNumber.TheVariants.{Absent, Given}
 use Rattle.predictor.specs.declared.Surroundings.{Surroundings}
 use Rattle.predictor.specs.Sign.{value_of, fits}
 
 -- last or 0
 unfoldable pub or_zero : Option ℕ → ℕ
-or_zero none = 0
-or_zero (some v) = v
+or_zero None = 0
+or_zero (Some v) = v
 
 -- a value of a history, as the encoding reads it
 unfoldable pub meaning : (signed : Bool) → Option ℕ → Option ℤ
-meaning signed none = none
-meaning signed (some v) = some (value_of signed v)
+meaning signed None = None
+meaning signed (Some v) = Some (value_of signed v)
 
 -- predictors 2 and 3: without older, last; without last, 0
 unfoldable pub from_both : (ℤ → ℤ → ℤ) → (last older : Option ℤ) → ℤ
-from_both both none older = pos 0
-from_both both (some l) none = l
-from_both both (some l) (some o) = both l o
+from_both both None older = pos 0
+from_both both (Some l) None = l
+from_both both (Some l) (Some o) = both l o
 
 -- Predictor 2: 2·last − older; if that does not fit the type, or is negative for unsigned, last.
 unfoldable pub straight : (fit : ℤ → Bool) → (last older : ℤ) → ℤ
@@ -37,9 +34,9 @@ unfoldable pub mean : (last older : ℤ) → ℤ
 mean l o = half (l +ℤ o)
 
 -- a header number; a definition whose predictors need one that is absent is refused, so that no walk uses the 0
-unfoldable pub number_of : HeaderNumber → ℕ
-number_of Absent = 0
-number_of (Given v) = v
+unfoldable pub number_of : Option ℕ → ℕ
+number_of None = 0
+number_of (Some v) = v
 
 -- The prediction for a field, as a 32-bit pattern: `motor` is the frame's own earlier `motor[0]`.
 -- 7 has no home here; a number that is no predictor is refused with the definition, and gives 0.

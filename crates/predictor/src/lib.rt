@@ -4,12 +4,12 @@
 
 ghost use Rattle.std.specs.Prelude.{◌≡◌, ◌+◌, ◌^◌, false};
 ghost use Rattle.bits.specs.Pattern.{pattern, wrap};
-ghost use Rattle.predictor.specs.Owes.{IsSignedOwes, StraightLineOwes, PredictOwes, ApplyOwes, last_of, older_of};
-ghost use Rattle.predictor.specs.Predictors.{or_zero, meaning, from_both, number_of, prediction};
+ghost use Rattle.predictor.specs.Owes.{IsSignedOwes, StraightLineOwes, PredictOwes, ApplyOwes};
+ghost use Rattle.predictor.specs.Predictors.{or_zero, meaning, from_both, number_of};
 ghost use Rattle.predictor.specs.Predictors as Predictors;
 ghost use Rattle.predictor.specs.Sign.{fits, value_of};
 
-use plan::{HeaderNumber, Numbers};
+use plan::Numbers;
 
 // What the predictors of a frame look at besides its histories.
 #[derive(Clone, Copy)]
@@ -21,53 +21,43 @@ pub struct Surroundings {
 // What stood in a field before: in the last frame and in the older one, each there or not.
 #[derive(Clone, Copy)]
 pub struct Before {
-    pub has_last: bool,
-    pub last: u32,
-    pub has_older: bool,
-    pub older: u32,
+    pub last: Option<u32>,
+    pub older: Option<u32>,
 }
 
 // Whether the values of an encoding are signed: the sign list has no part in it.
+#[tactic(auto, unfolding(crate::specs::Sign::is_signed))]
 pub fn is_signed(encoding: u8) -> bool
     ensures { IsSignedOwes encoding result }
 {
-    match encoding {
-        1 => false,
-        9 => false,
-        _ => true,
-    }
+    !matches!(encoding, 1 | 9)
 }
 
-// 2 * last - older, or last where that is negative or over the top. No step leaves 64 bits: compared before added or subtracted.
+// 2 * last - older, or last where that is negative or over the top. No step leaves 64 bits: what does is None.
+#[tactic(auto, using(crate::proofs::Lines::stays_from_below, crate::proofs::Lines::stays_from_over, crate::proofs::Lines::goes_on))]
 pub fn straight_line(top: u64, last: u64, older: u64) -> u64
     ensures { StraightLineOwes top last older result }
 {
-    if last < older {
-        let down = older - last;
-        if last < down {
-            return last;
-        }
-        let low = last - down;
-        if top < low {
-            return last;
-        }
-        return low;
+    let line = if last < older {
+        last.checked_sub(older - last)
+    } else {
+        last.checked_add(last - older)
+    };
+    match line {
+        Some(line) if line <= top => line,
+        _ => last,
     }
-    let up = last - older;
-    if u64::MAX - last < up {
-        return last;
-    }
-    let high = last + up;
-    if top < high { last } else { high }
 }
 
 // 2^31 further on, and again to come back: signed values in their order are unsigned ones in theirs.
+#[tactic(auto, unfolding(bits::specs::Pattern::wrap))]
 fn turned(v: u32) -> u32
     ensures { result ≡ wrap (v + 2 ^ 31) }
 {
-    std::num::wrapping_add_u32(v, 2147483648)
+    v.wrapping_add(2147483648)
 }
 
+#[tactic(auto, using(crate::proofs::Lines::straight_below, crate::proofs::Lines::straight_unsigned))]
 fn straight_32(last: u32, older: u32) -> u32
     ensures { result ≡ pattern (Predictors.straight (fits false) (value_of false last) (value_of false older)) }
 {
@@ -75,6 +65,7 @@ fn straight_32(last: u32, older: u32) -> u32
 }
 
 // Predictor 2 where there are both.
+#[tactic(auto, using(crate::proofs::Lines::straight_signed))]
 fn straight(signed: bool, last: u32, older: u32) -> u32
     ensures { result ≡ pattern (Predictors.straight (fits signed) (value_of signed last) (value_of signed older)) }
 {
@@ -85,6 +76,7 @@ fn straight(signed: bool, last: u32, older: u32) -> u32
 }
 
 // Predictor 3 where there are both. The sum of two turned values stands 2^32 above that of the signed ones.
+#[tactic(auto, using(crate::proofs::Means::mean_signed, crate::proofs::Means::mean_unsigned))]
 fn mean(signed: bool, last: u32, older: u32) -> u32
     ensures { result ≡ pattern (Predictors.mean (value_of signed last) (value_of signed older)) }
 {
@@ -97,51 +89,48 @@ fn mean(signed: bool, last: u32, older: u32) -> u32
     ((last as u64 + older as u64) / 2) as u32
 }
 
-fn last_or_zero(before: Before) -> u32
-    ensures { result ≡ or_zero (last_of before) }
-{
-    if before.has_last { before.last } else { 0 }
-}
-
+// Three lines that `average` has too: one function would take a closure, and then promise what this says for each closure.
+#[tactic(auto, using(crate::proofs::Predictions::histories))]
 fn straight_on(signed: bool, before: Before) -> u32
-    ensures { result ≡ pattern (from_both (Predictors.straight (fits signed)) (meaning signed (last_of before)) (meaning signed (older_of before))) }
+    ensures { result ≡ pattern (from_both (Predictors.straight (fits signed)) (meaning signed before.last) (meaning signed before.older)) }
 {
-    if before.has_last {
-        if before.has_older {
-            return straight(signed, before.last, before.older);
-        }
+    match (before.last, before.older) {
+        (None, _) => 0,
+        (Some(last), None) => last,
+        (Some(last), Some(older)) => straight(signed, last, older),
     }
-    last_or_zero(before)
 }
 
+#[tactic(auto, using(crate::proofs::Predictions::histories))]
 fn average(signed: bool, before: Before) -> u32
-    ensures { result ≡ pattern (from_both Predictors.mean (meaning signed (last_of before)) (meaning signed (older_of before))) }
+    ensures { result ≡ pattern (from_both Predictors.mean (meaning signed before.last) (meaning signed before.older)) }
 {
-    if before.has_last {
-        if before.has_older {
-            return mean(signed, before.last, before.older);
-        }
+    match (before.last, before.older) {
+        (None, _) => 0,
+        (Some(last), None) => last,
+        (Some(last), Some(older)) => mean(signed, last, older),
     }
-    last_or_zero(before)
 }
 
+#[tactic(auto, unfolding(bits::specs::Pattern::wrap, crate::specs::Predictors::or_zero))]
 fn increment(skipped: u32, before: Before) -> u32
-    ensures { result ≡ wrap (skipped + 1 + or_zero (last_of before)) }
+    ensures { result ≡ wrap (skipped + 1 + or_zero before.last) }
 {
-    std::num::wrapping_add_u32(std::num::wrapping_add_u32(skipped, 1), last_or_zero(before))
+    skipped
+        .wrapping_add(1)
+        .wrapping_add(before.last.unwrap_or(0))
 }
 
-fn number(of: HeaderNumber) -> u32
-    ensures { result ≡ number_of of }
+#[tactic(auto, unfolding(crate::specs::Predictors::number_of))]
+fn number(given: Option<u16>) -> u32
+    ensures { result ≡ number_of given }
 {
-    match of {
-        HeaderNumber::Absent => 0,
-        HeaderNumber::Given(v) => v as u32,
-    }
+    u32::from(given.unwrap_or(0))
 }
 
 // The prediction for a field; motor_0 is the frame's own earlier motor[0]. A number that is no predictor gives 0.
 // One match over all of them is compiled to a table of jumps.
+#[tactic(auto, unfolding(crate::specs::Predictors::prediction, crate::specs::Predictors::or_zero))]
 pub fn predict(
     predictor: u8,
     signed: bool,
@@ -152,27 +141,25 @@ pub fn predict(
     ensures { PredictOwes predictor signed around before motor_0 result }
 {
     let numbers = around.numbers;
-    let throttle = numbers.min_throttle;
-    let battery = numbers.vbat_reference;
-    let least = numbers.min_motor;
     match predictor {
         0 => 0,
-        1 => last_or_zero(before),
+        1 => before.last.unwrap_or(0),
         2 => straight_on(signed, before),
         3 => average(signed, before),
-        4 => number(throttle),
+        4 => number(numbers.min_throttle),
         5 => motor_0,
         6 => increment(around.skipped, before),
         7 => 0,
         8 => 1500,
-        9 => number(battery),
+        9 => number(numbers.vbat_reference),
         10 => 0,
-        11 => number(least),
+        11 => number(numbers.min_motor),
         _ => 0,
     }
 }
 
 // The value of a field: its raw number and its prediction, wrapping whatever the predictor.
+#[tactic(auto, unfolding(bits::specs::Pattern::wrap, crate::specs::Predictors::applied))]
 pub fn apply(
     predictor: u8,
     raw: u32,
@@ -184,5 +171,5 @@ pub fn apply(
     ensures { ApplyOwes predictor raw signed around before motor_0 result }
 {
     let prediction = predict(predictor, signed, around, before, motor_0);
-    std::num::wrapping_add_u32(raw, prediction)
+    raw.wrapping_add(prediction)
 }

@@ -1,4 +1,4 @@
--- What is gathered of the first records: nothing at first, one place set for one record more, and in the end what all records are read by. Assumes nothing.
+-- What is gathered of the first records: one place set for one record more, and in the end what all records are read by. Assumes nothing.
 use Prim.Native.Nat.{ℕ, zero, suc, ◌+◌, ◌≤◌, ◌<◌, min}
 use mathlib.Core.Bool.{Bool, true, false}
 use mathlib.Core.List.{List, [], ◌∷◌, map}
@@ -11,21 +11,14 @@ use lib.ListN.{length, take, get_or, set, replicate, length-map}
 use lib.Seq.{sets, sets-eq, take_all, take_at}
 use borrow.Author.Tests.{leb-true}
 use Rattle.frame.specs.declared.fields.Context.{Context}
-use Rattle.frame.specs.declared.fields.FieldReading.{FieldReading}
+use Rattle.frame.specs.declared.fields.FieldValues.{FieldValues}
+use Rattle.frame.specs.declared.fields.Unread.{Unread}
 use Rattle.frame.specs.Lists.{by_lists}
 use Rattle.reader.specs.declared.Cursor.{Cursor}
 use Rattle.reader.specs.Place.{padded}
+use Rattle.std.specs.Prelude.{Result}
 use Rattle.records.specs.declared.FieldDef.{FieldDef}
-use Rattle.records.specs.declared.Gathered.{Gathered}
-use Rattle.records.specs.Gathered.{gathered, none_yet, with, by_gathered}
-use Rattle.records.specs.Records.{by_records}
-
-abbrev nowhere : FieldDef
-nowhere = record { predictor = 0; encoding = 0; signed = false }
-
-pub starts : (fields : List FieldDef) → none_yet ≡ gathered (take 0 fields)
-unfolding none_yet
-starts fields = refl
+use Rattle.records.specs.Records.{encodings_of, predictors_of, by_records}
 
 -- one more is laid behind those that are laid from room k on
 lays : (f : FieldDef → ℕ) (fields : List FieldDef) (i : ℕ) (d : FieldDef) (rooms : List ℕ) (k : ℕ) → i < length fields
@@ -36,22 +29,13 @@ lays f (x ∷ xs) (suc i) d rooms k h =
     let next : k + suc i ≡ suc k + i = omega arith in
     ap (λ j. set (sets rooms k (map f (take (suc i) (x ∷ xs)))) j (f (get_or xs i d))) next ∙ lays f xs i d (set rooms k (f x)) (suc k) (le_of_suc-le-suc h)
 
-lays_first : (f : FieldDef → ℕ) (fields : List FieldDef) (i : ℕ) (d : FieldDef) → i < length fields
-    → set (padded 62 (map f (take i fields))) i (f (get_or fields i d)) ≡ padded 62 (map f (take (i + 1) fields))
-lays_first f fields i d h =
-    ap (λ j. set (padded 62 (map f (take i fields))) j (f (get_or fields i d))) (sym (zero-add i))
+pub lays_on : (f : FieldDef → ℕ) (fields : List FieldDef) (i : ℕ) (d : FieldDef) {rooms : List ℕ} → rooms ≡ padded 62 (map f (take i fields))
+    → i < length fields → set rooms i (f (get_or fields i d)) ≡ padded 62 (map f (take (i + 1) fields))
+lays_on f fields i d e h =
+    ap (λ rooms. set rooms i (f (get_or fields i d))) e
+    ∙ ap (λ j. set (padded 62 (map f (take i fields))) j (f (get_or fields i d))) (sym (zero-add i))
     ∙ lays f fields i d (replicate 62 0) 0 h
     ∙ ap (λ j. padded 62 (map f (take j fields))) (sym (add-one i))
-
-pub grows : (fields : List FieldDef) (i : ℕ) (d : FieldDef) → i < length fields
-    → with (gathered (take i fields)) i (get_or fields i d) ≡ gathered (take (i + 1) fields)
-unfolding gathered with
-grows fields i d h = λ j. record { encodings = lays_first (λ f. f.encoding) fields i d h j; predictors = lays_first (λ f. f.predictor) fields i d h j }
-
--- one turn of the entry's loop; what a place past the last record would hold is never asked for
-pub grown : (fields : List FieldDef) (i : ℕ) {g h : Gathered} → h ≡ with g i (get_or fields i nowhere) → g ≡ gathered (take i fields)
-    → i < length fields → h ≡ gathered (take (i + 1) fields)
-grown fields i e f h = e ∙ ap (λ x. with x i (get_or fields i nowhere)) f ∙ grows fields i nowhere h
 
 -- as many as there are records, of those that are laid
 all_laid : (f : FieldDef → ℕ) (fields : List FieldDef) → length fields ≤ 62 → take (length fields) (padded 62 (map f fields)) ≡ map f fields
@@ -60,22 +44,21 @@ all_laid f fields h =
     ∙ take_at (map f fields) _ (length fields) (length-map fields f)
 
 -- up to 62 are gathered whole; more are refused, whatever is gathered of them
-pub ends : (fields : List FieldDef) (i : ℕ) (x : Context) (s : List ℕ) (from : Cursor) → i ≡ min (length fields) 62
-    → by_gathered (length fields) (gathered (take i fields)) x s from ≡ by_records fields x s from
-unfolding by_lists gathered by_records
-ends fields i x s from e = either (leb n 62) refl
+pub ends : (fields : List FieldDef) (i : ℕ) (x : Context) (s : List ℕ) (from : Cursor) {es ps : List ℕ} {r : Result (FieldValues × Cursor) Unread}
+    → r ≡ by_lists (length fields) (take (length fields) es) (take (length fields) ps) x s from
+    → es ≡ padded 62 (encodings_of (take i fields)) → ps ≡ padded 62 (predictors_of (take i fields)) → i ≡ min (length fields) 62
+    → r ≡ by_records fields x s from
+unfolding by_lists by_records
+ends fields i x s from {es} {ps} {r} e f g k = either (leb n 62) refl
   where
     n : ℕ
     n = length fields
 
-    either : (t : Bool) → leb n 62 ≡ t → by_gathered n (gathered (take i fields)) x s from ≡ by_records fields x s from
+    either : (t : Bool) → leb n 62 ≡ t → r ≡ by_records fields x s from
     either true few =
         let h : n ≤ 62 = leb-true n 62 few in
         let whole : take i fields ≡ fields = take_all i fields (omega arith) in
-        ap (λ fs. by_gathered n (gathered fs) x s from) whole
-        ∙ ap₂ (λ es ps. by_lists n es ps x s from) (all_laid (λ f. f.encoding) fields h) (all_laid (λ f. f.predictor) fields h)
-    either false many = rw many
-
-pub ended : (fields : List FieldDef) (i : ℕ) (x : Context) (s : List ℕ) (from : Cursor) {g : Gathered} {r : FieldReading}
-    → r ≡ by_gathered (length fields) g x s from → g ≡ gathered (take i fields) → i ≡ min (length fields) 62 → r ≡ by_records fields x s from
-ended fields i x s from e f h = e ∙ ap (λ y. by_gathered (length fields) y x s from) f ∙ ends fields i x s from h
+        let codes = ap (take n) f ∙ ap (λ fs. take n (padded 62 (encodings_of fs))) whole ∙ all_laid (λ f. f.encoding) fields h in
+        let kinds = ap (take n) g ∙ ap (λ fs. take n (padded 62 (predictors_of fs))) whole ∙ all_laid (λ f. f.predictor) fields h in
+        e ∙ ap₂ (λ es ps. by_lists n es ps x s from) codes kinds
+    either false many = rw many (rw many at e)
