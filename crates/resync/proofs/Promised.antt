@@ -18,7 +18,7 @@ use Rattle.section.proofs.Admitted.{admitted_sound, sound_rooms}
 use Rattle.section.proofs.Paper.{paper_injective}
 use Rattle.calls.specs.Call.{after}
 use Rattle.calls.proofs.Until.{after_suc, after_keeps}
-use Rattle.walks.proofs.Fields.{Full, hands_out_rooms, begins_with}
+use Rattle.section.proofs.Fields.{Full, hands_out_rooms, begins_with}
 use Rattle.calls.proofs.Turns.{Kept}
 use Rattle.resync.specs.Code.{Promise, Run, shown_in, walk_in, Reports}
 use Rattle.resync.specs.Runs.{shown, behind}

@@ -17,7 +17,8 @@ use Rattle.calls.specs.Call.{after, called}
 use Rattle.calls.proofs.Calls.{called_counts}
 use Rattle.calls.proofs.Until.{after_keeps}
 use Rattle.walks.specs.Walks.{counts_of, through_of}
-use Rattle.walks.proofs.Fields.{Full, tick_full, called_full}
+use Rattle.section.proofs.Fields.{Full, tick_full}
+use Rattle.calls.proofs.Fields.{called_full}
 use Rattle.calls.proofs.Turns.{Kept, tick_kept, called_kept}
 use Rattle.walks.proofs.Kept.{after_admitted}
 use Rattle.walks.proofs.Over.{through_later}
