@@ -1,7 +1,7 @@
 // The words of a case: numbers, and the encodings and predictors of fields.
 ghost use Rattle.std.specs.Prelude.{◌≤◌, IfSome};
 
-// Up to 62 codes, of encodings or of predictors, 0 behind the last.
+// Up to 62 codes, of encodings or of predictors, 0 behind the last: an array with its count, as definitions and `read_fields` take it.
 #[derive(Clone, Copy)]
 struct Codes {
     n: usize,
@@ -65,10 +65,13 @@ fn fields_up_to(encodings: &[u8], top: u8, predictors: &[u8], top_predictor: u8)
     if encodings.n != predictors.n {
         return None;
     }
+    let n = encodings.n;
+    let encodings = encodings.codes;
+    let predictors = predictors.codes;
     Some(Fields {
-        n: encodings.n,
-        encodings: encodings.codes,
-        predictors: predictors.codes,
+        n,
+        encodings,
+        predictors,
     })
 }
 
