@@ -2,7 +2,6 @@
 use Prim.Native.Nat.{ℕ, zero, suc, ◌+◌, ◌^◌, ◌<◌, ◌≤◌}
 use mathlib.Core.Bool.{true, ◌&&◌}
 use mathlib.Core.List.{List, [], ◌∷◌, ◌++◌, map}
-use mathlib.Core.Option.{Option, none, some}
 use mathlib.Core.Path.{◌≡◌, refl, ap}
 use native.Mathlib.Omega.{arith}
 use lib.Dec.{eqb, ltb}
@@ -10,6 +9,7 @@ use lib.IntN.{ℤ}
 use lib.ListN.{length, take, set, replicate, length-append, length-map}
 use lib.Seq.{sets, length-sets, length-take-le}
 use borrow.Author.Tests.{eqb-true, ltb-true}
+use Rattle.std.specs.Prelude.{Option, Some, None}
 use Rattle.bits.specs.Pattern.{pattern}
 use Rattle.bits.proofs.Laws.{by_test, pattern_below}
 use Rattle.reader.specs.Got.{Reader}
@@ -199,5 +199,5 @@ inter_patterns es = then_reads (patterned_below encoding0) λ t k. then_reads (n
 
 pub slow_patterns : (es : Option (List ℕ)) → Reads Patterns (slow_raw es)
 unfolding slow_raw
-slow_patterns none = fault_reads
-slow_patterns (some es) = then_reads (numbers_below es) λ vs p. give_reads _ (raw_patterns 0 0 vs (omega arith) (omega arith) p)
+slow_patterns None = fault_reads
+slow_patterns (Some es) = then_reads (numbers_below es) λ vs p. give_reads _ (raw_patterns 0 0 vs (omega arith) (omega arith) p)

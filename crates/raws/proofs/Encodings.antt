@@ -6,12 +6,13 @@ use mathlib.Core.Path.{◌≡◌, refl, ap}
 use native.Mathlib.Omega.{arith}
 use lib.Dec.{eqb}
 use borrow.Author.Tests.{ne_eqb, eqb-true}
+use Rattle.std.specs.Prelude.{Result, Err}
 use Rattle.bits.specs.Pattern.{pattern}
 use Rattle.bits.proofs.Laws.{by_test}
 use Rattle.reader.specs.declared.Cursor.{Cursor}
+use Rattle.reader.specs.declared.Fault.{Fault}
+use Rattle.reader.specs.declared.Fault.TheVariants.{Corrupt}
 use Rattle.reader.specs.declared.Group.{Group}
-use Rattle.reader.specs.declared.Read.{Read}
-use Rattle.reader.specs.declared.Read.TheVariants as read
 use Rattle.reader.specs.Got.{over, Reader, fault}
 use Rattle.reader.specs.Place.{rest, read_at, group_at}
 use Rattle.decode.specs.TaggedVariable.{encoding6}
@@ -23,7 +24,7 @@ use Rattle.raws.specs.Groups.{size, alone, patterned, patterns, group}
 
 -- ## A number by itself
 
-module _ (e : ℕ) (s : List ℕ) (c : Cursor) {r : Read} where
+module _ (e : ℕ) (s : List ℕ) (c : Cursor) {r : Result (ℕ × Cursor) Fault} where
   pub of_0 : r ≡ read_at c (over pattern (encoding0 (rest c s))) → e ≡ 0 → r ≡ read_at c (single e (rest c s))
   unfolding single patterned
   of_0 p h = rw h p
@@ -41,7 +42,7 @@ module _ (e : ℕ) (s : List ℕ) (c : Cursor) {r : Read} where
   of_9 p h = rw h (p s)
 
 -- what is no encoding
-pub of_none : (e : ℕ) (s : List ℕ) (c : Cursor) → (e ≡ 0 → ⊥) × (e ≡ 1 → ⊥) × (e ≡ 3 → ⊥) × (e ≡ 9 → ⊥) → read.Corrupt ≡ read_at c (single e (rest c s))
+pub of_none : (e : ℕ) (s : List ℕ) (c : Cursor) → (e ≡ 0 → ⊥) × (e ≡ 1 → ⊥) × (e ≡ 3 → ⊥) × (e ≡ 9 → ⊥) → Err Corrupt ≡ read_at c (single e (rest c s))
 unfolding single fault read_at
 of_none e s c h = rw (ne_eqb e 0 h.0, ne_eqb e 1 h.1, ne_eqb e 3 h.2, ne_eqb e 9 h.3)
 

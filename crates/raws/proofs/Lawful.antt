@@ -2,10 +2,10 @@
 -- when bytes are appended.
 use Prim.Native.Nat.{ℕ}
 use mathlib.Core.List.{List, [], ◌∷◌, map}
-use mathlib.Core.Option.{Option, none, some}
 use native.Mathlib.Omega.{arith}
 use lib.Dec.{eqb}
 use lib.IntN.{ℤ}
+use Rattle.std.specs.Prelude.{Option, Some, None}
 use Rattle.bits.specs.Pattern.{pattern}
 use Rattle.reader.specs.Got.{Reader}
 use Rattle.reader.proofs.Lawful.{Lawful, lawful_give, lawful_fault, lawful_fewer, lawful_cond, lawful_then, lawful_map}
@@ -65,5 +65,5 @@ inter_lawful es = lawful_then (patterned_lawful encoding0_lawful) (λ t. lawful_
 
 pub slow_lawful : (es : Option (List ℕ)) → Lawful 0 (slow_raw es)
 unfolding slow_raw
-slow_lawful none = lawful_fault 0
-slow_lawful (some es) = lawful_map (raw 0 0) (numbers_lawful es)
+slow_lawful None = lawful_fault 0
+slow_lawful (Some es) = lawful_map (raw 0 0) (numbers_lawful es)

@@ -1,5 +1,4 @@
 pub mod Counted
-pub mod Emptied
 pub mod Encodings
 pub mod Frames
 pub mod Laid

@@ -9,7 +9,7 @@ ghost use Rattle.raws.specs.Groups as Groups;
 ghost use Rattle.raws.specs.Place.{lent_at};
 ghost use Rattle.raws.specs.Raws.{raw};
 
-use crate::Front;
+use crate::{Front, clear};
 use decode::negative_14_bit::negative_14_bit;
 use decode::tagged_variable::tagged_variable;
 use decode::variable::{variable, variable_signed};
@@ -92,12 +92,12 @@ pub(crate) fn read_into(
     from: Cursor,
     iteration: u32,
     time: u32,
-    out: &mut [u32],
+    out: &mut [u32; 62],
 ) -> Result<Front, Fault>
-    requires { (length encodings.now ≤ 62) × (length out.old ≡ 62) }
+    requires { length encodings.now ≤ 62 }
     ensures { settled result out.new ≡ lent_at from (over (raw iteration time) (numbers encodings.now (rest from s.now))) }
 {
-    out.fill(0);
+    clear(out);
     let mut next = from;
     let mut i = 0;
     while i < encodings.len() {

@@ -78,7 +78,7 @@ fn fields_into(
     ensures { settled result out.new ≡ lent_at from (over (raw iteration time) (numbers (take n encodings.now) (rest from s.now))) }
 {
     let some = n.min(encodings.len());
-    read_into(&encodings[..some], s, from, iteration, time, &mut out[..])
+    read_into(&encodings[..some], s, from, iteration, time, out)
 }
 
 // The frames, each with the first n of its fields. What the rooms hold where one stopped is not said.

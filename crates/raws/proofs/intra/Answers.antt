@@ -2,23 +2,9 @@
 use mathlib.Core.Path.{◌∙◌}
 use Rattle.plan.specs.Plan.{shape}
 use Rattle.raws.specs.Raws.{intra_raw}
-use borrow.Author.Rules.{rules}
-use Rattle.raws.proofs.Frames.{counted}
+use Rattle.raws.proofs.Frames.{value_is, counted}
 use Rattle.raws.proofs.intra.Goals as goal
-
-pub fields-requires : goal.fields-requires
-unfolding shape
-fields-requires c = search rules
-
-pub intra_into-front-requires : goal.intra_into-front-requires
-unfolding shape
-intra_into-front-requires c = search rules
-
-pub joined-requires : goal.joined-requires
-unfolding shape
-joined-requires c = search rules
 
 pub returns : goal.returns
 unfolding shape
-returns c =
-    counted intra_raw _ _ _ (c.joined.ensures ∙ c.intra_into-front.ensures) c.fields.ensures
+returns c = counted intra_raw _ _ _ (c.joined.ensures ∙ value_is _ _ _ _ c.intra_front-front.ensures) c.fields.ensures

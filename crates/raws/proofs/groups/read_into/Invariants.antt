@@ -1,5 +1,5 @@
--- `raws::groups::read_into` meets its contract. The invariant is `Held`; a turn is one number by itself, or one group. It requires 62 rooms, and no more
--- fields than these.
+-- `raws::groups::read_into` meets its contract. The invariant is `Held`; a turn is one number by itself, or one group. It requires no more
+-- fields than rooms.
 use Prim.Native.Nat.{◌-◌}
 use lib.ListN.{length}
 use Rattle.raws.proofs.Turns.{Held}
