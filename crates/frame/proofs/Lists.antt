@@ -1,27 +1,28 @@
 -- Fields read by lists of their own: numbers in 62 rooms make the values that the numbers make, and what the code answers is what is read.
 use Rattle.std.proofs.Common.{◌≡◌, ℕ, ◌<◌, ◌≤◌, Bool, true, false, cond, not, List, length, get_or, take, replicate, sym, refl, Option}
-use Rattle.std.proofs.Common.{ap, ◌∙◌, arith, length-take}
+use Rattle.std.proofs.Common.{ap, ◌∙◌, arith, length-take, Result, Ok, Err}
 use lib.Seq.{sets-eq, take-append-le}
 use borrow.Author.Tests.{not-true, not-false}
 use Rattle.plan.specs.Owes.{AreSoundOwes}
 use Rattle.plan.proofs.Sound.{fields_few}
-use Rattle.raws.specs.declared.Reading.{Reading}
+use Rattle.raws.specs.declared.Raw.{Raw}
 use Rattle.raws.specs.Groups.{numbers}
 use Rattle.raws.specs.Owes.{MainFieldsOwes}
-use Rattle.raws.specs.Place.{stopped_at, raw_at}
 use Rattle.raws.specs.Raws.{raw}
 use Rattle.raws.proofs.Counted.{numbers_count}
 use Rattle.raws.proofs.Turns.{bytes_of}
 use Rattle.reader.specs.declared.Cursor.{Cursor}
-use Rattle.reader.specs.declared.Step.TheVariants as step
+use Rattle.reader.specs.declared.Fault.{Fault}
+use Rattle.reader.specs.declared.Fault.TheVariants as fault
 use Rattle.reader.specs.Got.{Got, got, cut, corrupt, over}
-use Rattle.reader.specs.Place.{rest, on, padded}
+use Rattle.reader.specs.Place.{rest, on, read_at, padded}
 use Rattle.reader.proofs.Every.{Counts, Every, drop_each}
 use Rattle.frame.specs.declared.fields.Context.{Context}
-use Rattle.frame.specs.declared.fields.FieldReading.{FieldReading}
-use Rattle.frame.specs.declared.fields.Taken.TheVariants.{Next, Cut, Corrupt, Refused}
+use Rattle.frame.specs.declared.fields.FieldValues.{FieldValues}
+use Rattle.frame.specs.declared.fields.Unread.{Unread}
+use Rattle.frame.specs.declared.fields.Unread.TheVariants.{Unsound}
 use Rattle.frame.specs.Earlier.{laid}
-use Rattle.frame.specs.Lists.{field_values, fields_read, fields_in, last_in, older_in, no_fields, fields_at, by_lists}
+use Rattle.frame.specs.Lists.{field_values, fields_read, fields_in, last_in, older_in, unread, fields_at, by_lists}
 use Rattle.frame.specs.Owes.{ReadFieldsOwes}
 use Rattle.frame.specs.Values.{Fields, values_of}
 
@@ -39,34 +40,29 @@ padded_values f last older vs h =
 -- ## What is read
 
 -- fields at a place, from the reading of their numbers
-abbrev made : Fields → (last older : Option (List ℕ)) → Cursor → Got (List ℕ) → FieldReading
+abbrev made : Fields → (last older : Option (List ℕ)) → Cursor → Got (List ℕ) → Result (FieldValues × Cursor) Unread
 made f last older from g = fields_at from (over (λ raws. field_values raws (values_of f last older raws)) g)
 
 -- the code has the numbers in their rooms, and makes the values of those
-module _ (f : Fields) (last older : Option (List ℕ)) (from : Cursor) {r : Reading} where
-  made_got : (g : Got (List ℕ)) {q : Cursor} {vs : List ℕ} → r ≡ raw_at from (over (raw 0 0) g) → r.step ≡ step.Next q → vs ≡ laid f last older r.raw.fields
+module _ (f : Fields) (last older : Option (List ℕ)) (from : Cursor) where
+  made_got : (g : Got (List ℕ)) {x : Raw} {q : Cursor} {vs : List ℕ} → Ok (x, q) ≡ read_at from (over (raw 0 0) g) → vs ≡ laid f last older x.fields
       → Every (Counts (length f.predictors)) g → length f.predictors ≤ 62
-      → record { taken = Next q; fields = record { raws = r.raw.fields; values = vs } } ≡ made f last older from g
-  unfolding raw_at over raw stopped_at fields_at
-  made_got (got ws u) {q} e is v count few =
+      → Ok (record { raws = x.fields; values = vs }, q) ≡ made f last older from g
+  unfolding read_at over raw
+  made_got (got ws u) {x} {q} e v count few =
       let place : q ≡ on from u = cc in
-      let rooms = ap (λ x. x.raw.fields) e in
+      let numbers : x ≡ raw 0 0 ws = cc in
+      let rooms = ap (λ (y : Raw). y.fields) numbers in
       let values = v ∙ ap (laid f last older) rooms ∙ ap (padded 62) (padded_values f last older ws (omega (arith, count))) in
-      λ i. record { taken = Next (place i); fields = record { raws = rooms i; values = values i } }
-  made_got cut e is v count few = cc
-  made_got corrupt e is v count few = cc
+      λ i. Ok (record { raws = rooms i; values = values i }, place i)
+  made_got cut e v count few = cc
+  made_got corrupt e v count few = cc
 
-  made_cut : (g : Got (List ℕ)) → r ≡ raw_at from (over (raw 0 0) g) → r.step ≡ step.Cut → no_fields Cut ≡ made f last older from g
-  unfolding raw_at over stopped_at fields_at
-  made_cut (got ws u) e is = cc
-  made_cut cut e is = refl
-  made_cut corrupt e is = cc
-
-  made_corrupt : (g : Got (List ℕ)) → r ≡ raw_at from (over (raw 0 0) g) → r.step ≡ step.Corrupt → no_fields Corrupt ≡ made f last older from g
-  unfolding raw_at over stopped_at fields_at
-  made_corrupt (got ws u) e is = cc
-  made_corrupt cut e is = cc
-  made_corrupt corrupt e is = refl
+  made_fault : (g : Got (List ℕ)) {why : Fault} → Err why ≡ read_at from (over (raw 0 0) g) → Err (unread why) ≡ made f last older from g
+  unfolding read_at over
+  made_fault (got ws u) e = cc
+  made_fault cut {why} e = let same : why ≡ fault.Cut = cc in ap (λ d. Err (unread d)) same
+  made_fault corrupt {why} e = let same : why ≡ fault.Corrupt = cc in ap (λ d. Err (unread d)) same
 
 -- ## The answers of `read_fields`
 
@@ -82,32 +78,29 @@ module _ (n : ℕ) (es ps : List ℕ) (x : Context) (s : List ℕ) (from : Curso
   read = numbers (take n es) (rest from s)
 
   module _ {b : Bool} (asked : AreSoundOwes n ps es x.motor x.around.numbers b) where
-    decided : (k : Bool) → b ≡ k → ReadFieldsOwes n es ps x s from (cond k (made own (last_in x) (older_in x) from read) (no_fields (Refused 10 0)))
+    decided : (k : Bool) → b ≡ k → ReadFieldsOwes n es ps x s from (cond k (made own (last_in x) (older_in x) from read) (Err Unsound))
     unfolding by_lists fields_read
-    decided k is = ap (λ t. cond t (made own (last_in x) (older_in x) from read) (no_fields (Refused 10 0))) (sym is ∙ asked)
+    decided k is = ap (λ t. cond t (made own (last_in x) (older_in x) from read) (Err Unsound)) (sym is ∙ asked)
 
     -- what is not sound is refused
-    pub fields_refused : {t : FieldReading} → t ≡ no_fields (Refused 10 0) → not b ≡ true → ReadFieldsOwes n es ps x s from t
-    fields_refused e h = e ∙ decided false (not-true b h)
+    pub fields_refused : not b ≡ true → ReadFieldsOwes n es ps x s from (Err Unsound)
+    fields_refused h = decided false (not-true b h)
 
     -- what is sound is read
     module _ (passed : not b ≡ false) where
-      sound_are : {t : FieldReading} → t ≡ made own (last_in x) (older_in x) from read → ReadFieldsOwes n es ps x s from t
+      sound_are : {t : Result (FieldValues × Cursor) Unread} → t ≡ made own (last_in x) (older_in x) from read → ReadFieldsOwes n es ps x s from t
       sound_are e = e ∙ decided true (not-false b passed)
 
-      module _ {r : Reading} (e : MainFieldsOwes n es s from 0 0 r) where
-        pub fields_got : {q : Cursor} {vs : List ℕ} → r.step ≡ step.Next q → vs ≡ laid own (last_in x) (older_in x) r.raw.fields
+      module _ {r : Result (Raw × Cursor) Fault} (e : MainFieldsOwes n es s from 0 0 r) where
+        pub fields_got : {y : Raw} {q : Cursor} {vs : List ℕ} → r ≡ Ok (y, q) → vs ≡ laid own (last_in x) (older_in x) y.fields
             → (length es ≡ 62) × (length ps ≡ 62) → ((j : ℕ) → get_or s j 0 < 256)
-            → ReadFieldsOwes n es ps x s from (record { taken = Next q; fields = record { raws = r.raw.fields; values = vs } })
+            → ReadFieldsOwes n es ps x s from (Ok (record { raws = y.fields; values = vs }, q))
         fields_got is v h bytes =
             let alike : length (take n es) ≡ length (take n ps) = omega (arith, length-take n es, length-take n ps) in
             let count : Every (Counts (length (take n es))) read =
             (numbers_count (take n es)).every (rest from s) (drop_each (λ b. b < 256) from.at s (bytes_of s bytes)) in
-            sound_are (made_got own (last_in x) (older_in x) from read e is v (rw alike at count)
+            sound_are (made_got own (last_in x) (older_in x) from read (sym is ∙ e) v (rw alike at count)
             (omega (arith, length-take n ps, sound_few n es ps x asked passed)))
 
-        pub fields_cut : {t : FieldReading} → t ≡ no_fields Cut → r.step ≡ step.Cut → ReadFieldsOwes n es ps x s from t
-        fields_cut y is = sound_are (y ∙ made_cut own (last_in x) (older_in x) from read e is)
-
-        pub fields_corrupt : {t : FieldReading} → t ≡ no_fields Corrupt → r.step ≡ step.Corrupt → ReadFieldsOwes n es ps x s from t
-        fields_corrupt y is = sound_are (y ∙ made_corrupt own (last_in x) (older_in x) from read e is)
+        pub fields_stopped : {why : Fault} {d : Unread} → r ≡ Err why → d ≡ unread why → ReadFieldsOwes n es ps x s from (Err d)
+        fields_stopped is f = sound_are (ap Err f ∙ made_fault own (last_in x) (older_in x) from read (sym is ∙ e))

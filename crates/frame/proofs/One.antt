@@ -5,10 +5,12 @@ use Rattle.raws.specs.declared.Raw.{Raw}
 use Rattle.reader.specs.declared.Cursor.{Cursor}
 use Rattle.reader.proofs.One.{one_answer}
 use Rattle.frame.specs.declared.fields.Context.{Context}
-use Rattle.frame.specs.declared.fields.FieldReading.{FieldReading}
+use Rattle.frame.specs.declared.fields.FieldValues.{FieldValues}
+use Rattle.frame.specs.declared.fields.Unread.{Unread}
 use Rattle.frame.specs.declared.Head.{Head}
 use Rattle.frame.specs.declared.MainFrame.{MainFrame}
-use Rattle.frame.specs.Owes.{AbsentOwes, HeadOwes, WithOwes, IntraOwes, InterOwes, SlowOwes, IntraInOwes, InterInOwes, SlowInOwes, ReadFieldsOwes}
+use Rattle.frame.specs.Owes.{AbsentOwes, HeadOwes, WithOwes, IntraOwes, InterOwes, SlowOwes, IntraInOwes, InterInOwes, SlowInOwes}
+use Rattle.frame.specs.Owes.{ReadFieldsOwes, RefusalOwes}
 use Rattle.frame.specs.Parts.{head_of, frame_of, raw_of}
 
 pub absent_one : {r t : MainFrame} → AbsentOwes r → AbsentOwes t → r ≡ t

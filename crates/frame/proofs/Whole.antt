@@ -1,5 +1,6 @@
 -- Whole frames from their parts: the lists of a definition cut at the field count, and what the frames before leave.
-use Rattle.std.proofs.Common.{option_map, ◌≡◌, ℕ, zero, suc, ◌+◌, min, cond, eqb, List, length, take, sym, refl, ap, ◌∙◌, ap₂, arith, length-take, ne_eqb, Option, None, Some}
+use Rattle.std.proofs.Common.{option_map, ◌≡◌, ℕ, zero, suc, ◌+◌, min, cond, eqb, List, length}
+use Rattle.std.proofs.Common.{take, sym, refl, ap, ◌∙◌, ap₂, arith, length-take, ne_eqb, Option, None, Some}
 use Rattle.bits.specs.Pattern.{wrap}
 use Rattle.plan.specs.declared.Definition.{Definition}
 use Rattle.plan.specs.Plan.{shape, rules}

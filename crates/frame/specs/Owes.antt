@@ -1,15 +1,16 @@
 -- What each public function of this crate owes.
-use Rattle.std.specs.Prelude.{◌≡◌, ℕ, List, take, Option}
+use Rattle.std.specs.Prelude.{◌≡◌, ℕ, List, take, Option, Result}
 use Rattle.plan.specs.declared.Definition.{Definition}
 use Rattle.plan.specs.Plan.{shape, rules}
 use Rattle.raws.specs.declared.Raw.{Raw}
 use Rattle.reader.specs.declared.Cursor.{Cursor}
 use Rattle.frame.specs.declared.fields.Context.{Context}
-use Rattle.frame.specs.declared.fields.FieldReading.{FieldReading}
+use Rattle.frame.specs.declared.fields.FieldValues.{FieldValues}
+use Rattle.frame.specs.declared.fields.Unread.{Unread}
 use Rattle.frame.specs.declared.Head.{Head}
 use Rattle.frame.specs.declared.MainFrame.{MainFrame}
 use Rattle.frame.specs.Frames.{intra_frame, inter_frame, slow_values}
-use Rattle.frame.specs.Lists.{by_lists}
+use Rattle.frame.specs.Lists.{refusal_of, by_lists}
 use Rattle.frame.specs.Parts.{head_of, frame_of, raw_of}
 use Rattle.frame.specs.Past.{Body, past_of, body_of, no_frame}
 
@@ -46,5 +47,9 @@ abbrev pub SlowInOwes : Definition → (raws after : List ℕ) → Type 0
 SlowInOwes d xs after = (k t : ℕ) → SlowOwes d (raw_of k t xs) after
 
 -- the first n of 62 encodings and predictors
-abbrev pub ReadFieldsOwes : (n : ℕ) → (encodings predictors : List ℕ) → Context → (section : List ℕ) → Cursor → FieldReading → Type 0
+abbrev pub ReadFieldsOwes : (n : ℕ) → (encodings predictors : List ℕ) → Context → (section : List ℕ) → Cursor
+    → Result (FieldValues × Cursor) Unread → Type 0
 ReadFieldsOwes n es ps x s from r = r ≡ by_lists n (take n es) (take n ps) x s from
+
+abbrev pub RefusalOwes : Unread → Option (ℕ × ℕ) → Type 0
+RefusalOwes e r = r ≡ refusal_of e

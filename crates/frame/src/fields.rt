@@ -2,13 +2,13 @@
 // No definition is asked: the lists and their surroundings come from the caller, and are refused where a walk's would be.
 ghost use Rattle.std.specs.Prelude.{◌≡◌, ◌≤◌, take};
 ghost use Rattle.frame.specs.Earlier.{laid};
-ghost use Rattle.frame.specs.Lists.{fields_in, last_in, older_in, no_fields};
-ghost use Rattle.frame.specs.Owes.{ReadFieldsOwes};
+ghost use Rattle.frame.specs.Lists.{fields_in, last_in, older_in, unread};
+ghost use Rattle.frame.specs.Owes.{ReadFieldsOwes, RefusalOwes};
 
 use crate::{FieldLists, MainFrame, values_of};
 use predictor::Surroundings;
 use raws::Raw;
-use reader::{Cursor, Step};
+use reader::{Cursor, Fault};
 
 // What predictions read beside a field's own lists: what the Rust's PredictorContext is set to field by field, as whole frames;
 // and the place of motor[0] among the fields, or one behind them all.
@@ -27,30 +27,35 @@ pub struct FieldValues {
     pub values: [u32; 62],
 }
 
-// The place behind the fields, or why there is none: a refusal has document 01's number and place.
-#[derive(Clone, Copy)]
-pub enum Taken {
-    Next(Cursor),
+// Why there are no fields: their bytes, or what they were to be read by.
+#[derive(Clone, Copy, PartialEq, Eq, Debug)]
+pub enum Unread {
     Cut,
     Corrupt,
-    Refused(u8, usize),
+    Unsound,
 }
 
-#[derive(Clone, Copy)]
-pub struct FieldReading {
-    pub taken: Taken,
-    pub fields: FieldValues,
+impl Unread {
+    // A refusal's number and place in document 01.
+    pub fn refusal(self) -> Option<(u8, usize)>
+        ensures { RefusalOwes self result }
+    {
+        match self {
+            Unread::Cut | Unread::Corrupt => None,
+            Unread::Unsound => Some((10, 0)),
+        }
+    }
 }
 
-// No fields, and why.
-fn none(taken: Taken) -> FieldReading
-    ensures { result ≡ no_fields taken }
-{
-    let fields = FieldValues {
-        raws: [0u32; 62],
-        values: [0u32; 62],
-    };
-    FieldReading { taken, fields }
+impl From<Fault> for Unread {
+    ghost from_gives = { λ f e. e ≡ unread f };
+
+    fn from(fault: Fault) -> Unread {
+        match fault {
+            Fault::Cut => Unread::Cut,
+            Fault::Corrupt => Unread::Corrupt,
+        }
+    }
 }
 
 // The values that raw numbers make, by the frames that are there.
@@ -93,27 +98,17 @@ pub fn read_fields(
     context: Context,
     s: &[u8],
     from: Cursor,
-) -> FieldReading
+) -> Result<(FieldValues, Cursor), Unread>
     ensures { ReadFieldsOwes n encodings predictors context s.now from result }
 {
-    let around = context.around;
-    if !plan::are_sound(n, &predictors, &encodings, context.motor, around.numbers) {
-        return none(Taken::Refused(10, 0));
+    let numbers = context.around.numbers;
+    if !plan::are_sound(n, &predictors, &encodings, context.motor, numbers) {
+        return Err(Unread::Unsound);
     }
-    let reading = raws::main_fields(n, encodings, s, from, 0, 0);
-    let step = reading.step;
-    let raw = reading.raw;
-    match step {
-        Step::Next(behind) => {
-            let raws = raw.fields;
-            let values = values(n, encodings, predictors, context, raw);
-            let fields = FieldValues { raws, values };
-            FieldReading {
-                taken: Taken::Next(behind),
-                fields,
-            }
-        }
-        Step::Cut => none(Taken::Cut),
-        Step::Corrupt => none(Taken::Corrupt),
-    }
+    let (raw, behind) = raws::main_fields(n, encodings, s, from, 0, 0)?;
+    let fields = FieldValues {
+        raws: raw.fields,
+        values: values(n, encodings, predictors, context, raw),
+    };
+    Ok((fields, behind))
 }

@@ -1,5 +1,6 @@
 -- Which histories each predictor reads: what is said not to be read has no part in the prediction, and what is said to be read does.
-use Rattle.std.proofs.Common.{Option, None, Some, ◌≡◌, ℕ, zero, suc, Bool, true, false, not, ◌||◌, eqb, List, [], ◌∷◌, get_or, sym, refl, subst, arith, eqb-true}
+use Rattle.std.proofs.Common.{Option, None, Some, ◌≡◌, ℕ, zero, suc, Bool, true, false, not}
+use Rattle.std.proofs.Common.{◌||◌, eqb, List, [], ◌∷◌, get_or, sym, refl, subst, arith, eqb-true}
 use mathlib.Core.Bool.{false≢true, and-eq-true_iff}
 use borrow.Author.Tests.{not-true}
 use Rattle.bits.specs.Pattern.{wrap, pattern, lowered, signed, meant}

@@ -56,6 +56,7 @@ ends fields i x s from {es} {ps} {r} e f g k = either (leb n 62) refl
     either true few =
         let h : n ≤ 62 = leb-true n 62 few in
         let whole : take i fields ≡ fields = take_all i fields (omega arith) in
-        e ∙ ap₂ (λ es ps. by_lists n es ps x s from) (ap (take n) f ∙ ap (λ fs. take n (padded 62 (encodings_of fs))) whole ∙ all_laid (λ f. f.encoding) fields h)
-        (ap (take n) g ∙ ap (λ fs. take n (padded 62 (predictors_of fs))) whole ∙ all_laid (λ f. f.predictor) fields h)
+        let codes = ap (take n) f ∙ ap (λ fs. take n (padded 62 (encodings_of fs))) whole ∙ all_laid (λ f. f.encoding) fields h in
+        let kinds = ap (take n) g ∙ ap (λ fs. take n (padded 62 (predictors_of fs))) whole ∙ all_laid (λ f. f.predictor) fields h in
+        e ∙ ap₂ (λ es ps. by_lists n es ps x s from) codes kinds
     either false many = rw many (rw many at e)

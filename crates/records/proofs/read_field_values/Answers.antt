@@ -14,4 +14,6 @@ loop-i-preserved c =
     )
 
 pub returns : goal.returns
-returns c = ends c.args.fields.now c.loop-i.i c.args.context c.args.s.now c.args.from c.read_fields.ensures c.loop-i.invariant.0 c.loop-i.invariant.1 (omega arith)
+returns c =
+    ends c.args.fields.now c.loop-i.i c.args.context c.args.s.now c.args.from
+    c.read_fields.ensures c.loop-i.invariant.0 c.loop-i.invariant.1 (omega arith)
