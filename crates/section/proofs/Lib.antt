@@ -12,5 +12,4 @@ pub mod Paper
 pub mod Rooms
 pub mod Stays
 pub mod Sums
-pub mod Tallies
 pub mod Trials

@@ -104,6 +104,7 @@ impl Answer {
 
 impl Walk {
     // A walk that has not begun.
+    #[tactic(auto, unfolding(crate::specs::Walk::start))]
     pub fn start() -> Walk
         ensures { StartOwes result }
     {
@@ -120,6 +121,7 @@ impl Walk {
 }
 
 // Puts values in front of a buffer, as many as it has places; the rest keep their content.
+#[tactic(auto, using(crate::proofs::Filling::in_front))]
 pub fn put(values: &[u32], out: &mut [u32])
     ensures { PutOwes values.now out.old out.new }
 {
@@ -128,6 +130,7 @@ pub fn put(values: &[u32], out: &mut [u32])
 }
 
 // A refusal hands the walk back, and reports no trials.
+#[tactic(auto, unfolding(crate::specs::Answers::refusing))]
 pub fn refused(why: Refusal, w: Walk) -> Looked
     ensures { RefusedOwes why w result }
 {
@@ -139,6 +142,7 @@ pub fn refused(why: Refusal, w: Walk) -> Looked
 }
 
 // A walk that has ended.
+#[tactic(auto, unfolding(crate::specs::Answers::handed, crate::specs::Walk::over))]
 pub fn over(w: Walk) -> Looked
     ensures { OverOwes w result }
 {

@@ -111,6 +111,7 @@ fn light_with(answer: Answer, tally: Tally, heads: Heads) -> Settled
 }
 
 // An answer without fields: the rooms for them are emptied.
+#[tactic(auto, using(crate::proofs::Lent::settled_tells), unfolding(crate::specs::Answers::handed))]
 fn still(answer: Answer, tally: Tally, heads: Heads, values: &mut Values) -> Settled
     ensures { told_beside result values.new ≡ handed (outcome answer [] tally (history_beside heads values.old)) (replicate 62 0) }
 {
@@ -181,6 +182,7 @@ fn accept(
 }
 
 // What a look does to a walk over a section of so many bytes.
+#[tactic(auto, unfolding(crate::specs::Walk::settled, crate::specs::Walk::answer_after, crate::specs::Walk::fields_after, crate::specs::Walk::history_after))]
 pub fn settle_in(
     d: Definition,
     w: Light,

@@ -18,6 +18,7 @@ fn cut_trials(ending: Ending) -> usize
 }
 
 // Whether the trials are the sum of their parts. The parts are taken off one by one: their sum need not be a number of 64 bits.
+#[tactic(auto, using(crate::proofs::Sums::off_first, crate::proofs::Sums::off_on, crate::proofs::Sums::off_all))]
 fn is_sum(t: Tally) -> bool
     ensures { result ≡ eqb t.trials (parts_of t) }
 {
