@@ -33,10 +33,7 @@ fn read_by(reader: &[u8], group: usize, place: usize, s: &[u8]) -> Option<Answer
         b"8" => Some(Answer::Group(tagged_16(s, from), 4)),
         b"9" => Some(Answer::Unsigned(decode::null(from))),
         b"byte" => Some(Answer::Byte(reader::read_u8(s, from))),
-        b"search" => Some(Answer::Search(reader::skip_to_frame(
-            s,
-            RestorePoint(place),
-        ))),
+        b"search" => Some(Answer::Search(reader::skip_to_frame(s, RestorePoint(place)))),
         _ => None,
     }
 }
