@@ -36,7 +36,8 @@ module _ (n : ℕ) (c : Cursor) (s : List ℕ) where
   unfolding headed
   head_err {d} e = then_err patterns_at patterns_after _ s c byte e (sym (ap (group_at c) (over_met (map pattern) d) ∙ group_met c d))
 
-  pub head_high : {h : ℕ} {q : Cursor} → Ok (h, q) ≡ read_at c (byte (rest c s)) → 2 ^ n ≤ h → no_values (Err Corrupt) ≡ group_at c (over (map pattern) (headed n (rest c s)))
+  pub head_high : {h : ℕ} {q : Cursor} → Ok (h, q) ≡ read_at c (byte (rest c s)) → 2 ^ n ≤ h
+      → no_values (Err Corrupt) ≡ group_at c (over (map pattern) (headed n (rest c s)))
   unfolding headed fault over group_at
   head_high {h} e le = then_ok patterns_at patterns_after _ s c byte e (rw (le-ltb h (2 ^ n) le))
 

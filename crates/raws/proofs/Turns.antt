@@ -175,7 +175,8 @@ module _ {es s : List ℕ} {from : Cursor} {k t : ℕ} {values : List ℕ} {next
         is = one_split ∙ number_next k t s values i next (runs (drop (i + 1) es)) (single (get_or es i 0) (rest next s)) e;
       }
 
-  pub one_stop : {d : Fault} → Err d ≡ read_at next (single (get_or es i 0) (rest next s)) → stopped d ≡ lent_at from (over (raw k t) (numbers es (rest from s)))
+  pub one_stop : {d : Fault} → Err d ≡ read_at next (single (get_or es i 0) (rest next s))
+      → stopped d ≡ lent_at from (over (raw k t) (numbers es (rest from s)))
   one_stop e = number_stop k t s values i next (runs (drop (i + 1) es)) (single (get_or es i 0) (rest next s)) e ∙ sym one_split
 
 -- a group

@@ -40,7 +40,8 @@ module _ (size : ℕ → ℕ) (vals : ℕ → List ℕ → List ℤ) (s : List �
   pub short : (from.at < length s) × (length s - from.at < size (get_or s from.at 0))
       → no_values (Err Cut) ≡ group_at from (over (map pattern) (by_head size vals (rest from s)))
   unfolding group_at over by_head
-  short h = rw (drop-cons s from.at 0 h.0, lt-ltb (suc (length (drop (suc from.at) s))) (size (get_or s from.at 0)) (rw (length-drop (suc from.at) s) (omega arith)))
+  short h =
+      rw (drop-cons s from.at 0 h.0, lt-ltb (suc (length (drop (suc from.at) s))) (size (get_or s from.at 0)) (rw (length-drop (suc from.at) s) (omega arith)))
 
   pub whole : {n : ℕ} {vs : List ℕ} → n ≡ size (get_or s from.at 0) → vs ≡ padded 8 (map pattern (vals (get_or s from.at 0) (rest from s)))
       → (from.at < length s) × (n ≤ length s - from.at)

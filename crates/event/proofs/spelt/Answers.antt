@@ -15,10 +15,14 @@ returns-in_err-b c =
     ∙ come_stop _ _ _ _ _ _ c.loop-letter.invariant c.loop-letter-test.true (byte_or _ _ c.in_err-b.ensures.value c.read_u8.ensures)
 
 pub returns-then-b-letter : goal.returns-then-b-letter
-returns-then-b-letter c = come_other _ _ _ _ _ _ c.loop-letter.invariant c.loop-letter-test.true (byte_or _ _ c.in_ok-b.ensures.value c.read_u8.ensures) c.if-b-letter.true
+returns-then-b-letter c =
+    come_other _ _ _ _ _ _ c.loop-letter.invariant c.loop-letter-test.true
+    (byte_or _ _ c.in_ok-b.ensures.value c.read_u8.ensures) c.if-b-letter.true
 
 pub loop-letter-preserved : goal.loop-letter-preserved
-loop-letter-preserved c = come_on _ _ _ _ _ _ c.loop-letter.invariant c.loop-letter-test.true (byte_or _ _ c.in_ok-b.ensures.value c.read_u8.ensures) c.if-b-letter.false
+loop-letter-preserved c =
+    come_on _ _ _ _ _ _ c.loop-letter.invariant c.loop-letter-test.true
+    (byte_or _ _ c.in_ok-b.ensures.value c.read_u8.ensures) c.if-b-letter.false
 
 pub returns : goal.returns
 returns c = come_end _ _ _ _ _ _ c.loop-letter.invariant (omega arith)
