@@ -1,11 +1,9 @@
--- What a look does, by what was seen and by the frame that was accepted.
+-- What an accepted frame does, by its kind.
 use Prim.Native.Nat.{ℕ}
 use mathlib.Core.List.{List, []}
 use mathlib.Core.Path.{◌≡◌, refl, sym, ap, ◌∙◌}
 use lib.ListN.{take}
 use lib.Seq.{sets}
-use Rattle.reader.specs.declared.Kind.{Kind}
-use Rattle.reader.specs.declared.Skip.{Skip}
 use Rattle.plan.specs.declared.Definition.{Definition}
 use Rattle.plan.specs.Plan.{fields, shape, rules}
 use Rattle.raws.specs.declared.Raw.{Raw}
@@ -18,19 +16,13 @@ use Rattle.history.specs.History.{pushed, past}
 use Rattle.event.specs.declared.Event as event
 use Rattle.extent.specs.declared.Found.{Found}
 use Rattle.extent.specs.declared.Found.TheVariants.{Event, Intra, Inter, Slow}
-use Rattle.extent.specs.declared.Look.{Look}
-use Rattle.extent.specs.declared.Seen.{Seen}
-use Rattle.extent.specs.declared.Seen.TheVariants.{Nothing, Passed, Rejected, Cutoff, Accepted}
 use Rattle.section.specs.declared.Answer.{Answer}
 use Rattle.section.specs.declared.Answer.TheVariants as answer
-use Rattle.section.specs.declared.Ending.TheVariants.{Out, Cut}
 use Rattle.section.specs.declared.MainAnswer.{MainAnswer}
 use Rattle.section.specs.declared.Tally.{Tally}
-use Rattle.section.specs.declared.Walk.{Walk}
 use Rattle.section.specs.Answers.{paper_of, Told, handed}
-use Rattle.section.specs.Tally.{tally_after}
 use Rattle.section.specs.Walk.{intra_of, inter_of, main_answer, history_with, answer_with, fields_with}
-use Rattle.section.specs.Walk.{history_after, answer_after, fields_after, outcome, settled}
+use Rattle.section.specs.Walk.{outcome}
 
 -- an answer without fields, behind fields that are put
 hands : (t : Tally) (vs out : List ℕ) {a b : Answer} {g h : History} {after : List ℕ} → a ≡ b → g ≡ h → after ≡ sets out 0 vs
@@ -79,42 +71,3 @@ module _ (d : Definition) (f : Found) (x : Raw) (p : ℕ) (t : Tally) (h : Histo
         tells
         ∙ hands t (take d.slow.n (slow_values (shape d) (rules d) x)) out refl refl (put ∙ ap (λ vs. sets out 0 (take d.slow.n vs)) is)
         ∙ accepted_is e
-
--- ## A look
-
-module _ (d : Definition) (l : Look) (z : ℕ) (w : Walk) {t : Tally} (behind : t ≡ tally_after l.seen z w.tally) (out : List ℕ) where
-  -- what each thing that can be seen does, with the tally behind it
-  abbrev seen_as : Seen → Tally → Told
-  seen_as y u =
-      handed
-      (outcome (answer_after d y w.tally.place l.raw w.history) (fields_after d y l.raw w.history) u (history_after d y l.raw w.history))
-      out
-
-  settles : {y : Seen} → l.seen ≡ y → seen_as y t ≡ handed (settled d l z w) out
-  unfolding settled
-  settles {y} e = ap (seen_as y) behind ∙ sym (ap (λ u. seen_as u (tally_after l.seen z w.tally)) e)
-
-  module _ {r : Told} where
-    pub see_nothing : l.seen ≡ Nothing → r ≡ handed (outcome (answer.Over Out) [] t w.history) out → r ≡ handed (settled d l z w) out
-    unfolding answer_after fields_after history_after
-    see_nothing e tells = tells ∙ settles e
-
-    pub see_passed : {s : Skip} → l.seen ≡ Passed s → r ≡ handed (outcome answer.Passed [] t w.history) out → r ≡ handed (settled d l z w) out
-    unfolding answer_after fields_after history_after
-    see_passed e tells = tells ∙ settles e
-
-    pub see_rejected : {k : Kind} {s : Skip} → l.seen ≡ Rejected k s → r ≡ handed (outcome (answer.Rejected k w.tally.place) [] t w.history) out
-        → r ≡ handed (settled d l z w) out
-    unfolding answer_after fields_after history_after
-    see_rejected e tells = tells ∙ settles e
-
-    pub see_cut : {k : Kind} → l.seen ≡ Cutoff k → r ≡ handed (outcome (answer.Over (Cut k w.tally.place)) [] t w.history) out
-        → r ≡ handed (settled d l z w) out
-    unfolding answer_after fields_after history_after
-    see_cut e tells = tells ∙ settles e
-
-    pub see_accepted : {f : Found} {m : ℕ} → l.seen ≡ Accepted f m → r ≡ handed
-        (outcome (answer_with d f w.tally.place l.raw w.history) (fields_with d f l.raw w.history) t (history_with d f l.raw w.history)) out
-        → r ≡ handed (settled d l z w) out
-    unfolding answer_after fields_after history_after
-    see_accepted e tells = tells ∙ settles e

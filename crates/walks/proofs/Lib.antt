@@ -1,7 +1,6 @@
 pub mod Fields
 pub mod Kept
 pub mod Kth
-pub mod Last
 pub mod One
 pub mod Over
 pub mod Turns
