@@ -44,7 +44,7 @@ pub struct Lists {
     pub slow: SlowLists,
 }
 
-// What a list is a list of.
+// What a list is a list of: a switch, and not a reader that is handed in, since `ReadRowOwes` says by it what the row holds.
 #[derive(Clone, Copy)]
 pub enum Of {
     Names,
@@ -53,7 +53,7 @@ pub enum Of {
     Signs,
 }
 
-// The code of an item that is no predictor, or no encoding; a known one is its own number.
+// The code of an item that is no predictor, or no encoding; a known one is its own number. A byte, and no Option: it goes into a definition as it is.
 pub const UNKNOWN: u8 = 255;
 
 // The codes of the names that the rules speak of; any other name is 0.
