@@ -1,6 +1,7 @@
 -- Fields read by lists of their own: numbers in 62 rooms make the values that the numbers make, and what the code answers is what is read.
 use Rattle.std.proofs.Common.{◌≡◌, ℕ, ◌<◌, ◌≤◌, Bool, true, false, cond, not, List, length, get_or, take, replicate, sym, refl, Option}
-use Rattle.std.proofs.Common.{ap, ◌∙◌, arith, length-take, Result, Ok, Err}
+use Rattle.std.proofs.Common.{ap, ◌∙◌, arith, length-take, Result, Ok, Err, IsErrAnd}
+use Rattle.std.proofs.lemmas.Result.{err_from_is_err_and}
 use lib.Seq.{sets-eq, take-append-le}
 use borrow.Author.Tests.{not-true, not-false}
 use Rattle.plan.specs.Owes.{AreSoundOwes}
@@ -17,6 +18,7 @@ use Rattle.reader.specs.declared.Fault.TheVariants as fault
 use Rattle.reader.specs.Got.{Got, got, cut, corrupt, over}
 use Rattle.reader.specs.Place.{rest, on, read_at, padded}
 use Rattle.reader.proofs.Every.{Counts, Every, drop_each}
+use Rattle.reader.proofs.Reading.{ok_parts}
 use Rattle.frame.specs.declared.fields.Context.{Context}
 use Rattle.frame.specs.declared.fields.FieldValues.{FieldValues}
 use Rattle.frame.specs.declared.fields.Unread.{Unread}
@@ -50,11 +52,10 @@ module _ (f : Fields) (last older : Option (List ℕ)) (from : Cursor) where
       → Ok (record { raws = x.fields; values = vs }, q) ≡ made f last older from g
   unfolding read_at over raw
   made_got (got ws u) {x} {q} e v count few =
-      let place : q ≡ on from u = cc in
-      let numbers : x ≡ raw 0 0 ws = cc in
-      let rooms = ap (λ (y : Raw). y.fields) numbers in
+      let same = ok_parts e in
+      let rooms = ap (λ (y : Raw). y.fields) same.0 in
       let values = v ∙ ap (laid f last older) rooms ∙ ap (padded 62) (padded_values f last older ws (omega (arith, count))) in
-      λ i. Ok (record { raws = rooms i; values = values i }, place i)
+      λ i. Ok (record { raws = rooms i; values = values i }, same.1 i)
   made_got cut e v count few = cc
   made_got corrupt e v count few = cc
 
@@ -102,5 +103,8 @@ module _ (n : ℕ) (es ps : List ℕ) (x : Context) (s : List ℕ) (from : Curso
             sound_are (made_got own (last_in x) (older_in x) from read (sym is ∙ e) v (rw alike at count)
             (omega (arith, length-take n ps, sound_few n es ps x asked passed)))
 
-        pub fields_stopped : {why : Fault} {d : Unread} → r ≡ Err why → d ≡ unread why → ReadFieldsOwes n es ps x s from (Err d)
-        fields_stopped is f = sound_are (ap Err f ∙ made_fault own (last_in x) (older_in x) from read (sym is ∙ e))
+        pub fields_stopped : {why : Fault} {t : Result (FieldValues × Cursor) Unread} → r ≡ Err why → IsErrAnd t (λ d. d ≡ unread why)
+            → ReadFieldsOwes n es ps x s from t
+        fields_stopped {t = t} is f =
+            let stopped = err_from_is_err_and t f in
+            sound_are (stopped.1 ∙ ap Err stopped.2 ∙ made_fault own (last_in x) (older_in x) from read (sym is ∙ e))

@@ -1,5 +1,5 @@
 -- One input admits one answer: any two answers that a promise of this crate admits are equal.
-use Rattle.std.proofs.Common.{◌≡◌, ℕ, List, ap, None}
+use Rattle.std.proofs.Common.{◌≡◌, ℕ, List, ap, Option, None, Result}
 use Rattle.plan.specs.declared.Definition.{Definition}
 use Rattle.raws.specs.declared.Raw.{Raw}
 use Rattle.reader.specs.declared.Cursor.{Cursor}
@@ -47,6 +47,9 @@ module _ {r t : Head} {vs ws : List ℕ} where
 pub slow_in_one : (d : Definition) (xs : List ℕ) {vs ws : List ℕ} → SlowInOwes d xs vs → SlowInOwes d xs ws → vs ≡ ws
 slow_in_one d xs p q = one_answer (p 0 0) (q 0 0)
 
-pub read_fields_one : (n : ℕ) (es ps : List ℕ) (x : Context) (s : List ℕ) (from : Cursor) {r t : FieldReading}
+pub read_fields_one : (n : ℕ) (es ps : List ℕ) (x : Context) (s : List ℕ) (from : Cursor) {r t : Result (FieldValues × Cursor) Unread}
     → ReadFieldsOwes n es ps x s from r → ReadFieldsOwes n es ps x s from t → r ≡ t
 read_fields_one n es ps x s from = one_answer
+
+pub refusal_one : (e : Unread) {r t : Option (ℕ × ℕ)} → RefusalOwes e r → RefusalOwes e t → r ≡ t
+refusal_one e = one_answer

@@ -106,9 +106,7 @@ pub fn read_fields(
         return Err(Unread::Unsound);
     }
     let (raw, behind) = raws::main_fields(n, encodings, s, from, 0, 0)?;
-    let fields = FieldValues {
-        raws: raw.fields,
-        values: values(n, encodings, predictors, context, raw),
-    };
-    Ok((fields, behind))
+    let raws = raw.fields;
+    let values = values(n, encodings, predictors, context, raw);
+    Ok((FieldValues { raws, values }, behind))
 }

@@ -11,10 +11,12 @@ use lib.ListN.{length, take, get_or, set, replicate, length-map}
 use lib.Seq.{sets, sets-eq, take_all, take_at}
 use borrow.Author.Tests.{leb-true}
 use Rattle.frame.specs.declared.fields.Context.{Context}
-use Rattle.frame.specs.declared.fields.FieldReading.{FieldReading}
+use Rattle.frame.specs.declared.fields.FieldValues.{FieldValues}
+use Rattle.frame.specs.declared.fields.Unread.{Unread}
 use Rattle.frame.specs.Lists.{by_lists}
 use Rattle.reader.specs.declared.Cursor.{Cursor}
 use Rattle.reader.specs.Place.{padded}
+use Rattle.std.specs.Prelude.{Result}
 use Rattle.records.specs.declared.FieldDef.{FieldDef}
 use Rattle.records.specs.Records.{encodings_of, predictors_of, by_records}
 
@@ -42,7 +44,7 @@ all_laid f fields h =
     ∙ take_at (map f fields) _ (length fields) (length-map fields f)
 
 -- up to 62 are gathered whole; more are refused, whatever is gathered of them
-pub ends : (fields : List FieldDef) (i : ℕ) (x : Context) (s : List ℕ) (from : Cursor) {es ps : List ℕ} {r : FieldReading}
+pub ends : (fields : List FieldDef) (i : ℕ) (x : Context) (s : List ℕ) (from : Cursor) {es ps : List ℕ} {r : Result (FieldValues × Cursor) Unread}
     → r ≡ by_lists (length fields) (take (length fields) es) (take (length fields) ps) x s from
     → es ≡ padded 62 (encodings_of (take i fields)) → ps ≡ padded 62 (predictors_of (take i fields)) → i ≡ min (length fields) 62
     → r ≡ by_records fields x s from

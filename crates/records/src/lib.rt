@@ -3,7 +3,7 @@
 
 ghost use Rattle.records.specs.Owes.{ReadFieldValuesOwes, ReadRecordsOwes};
 
-use frame::fields::{Context, FieldReading};
+use frame::fields::{Context, FieldValues, Unread};
 use reader::Cursor;
 
 // A field of one kind of frame. Its sign is for display: no reading asks for it.
@@ -20,7 +20,7 @@ pub fn read_field_values(
     from: Cursor,
     fields: &[FieldDef],
     context: Context,
-) -> FieldReading
+) -> Result<(FieldValues, Cursor), Unread>
     ensures { ReadFieldValuesOwes s.now from fields.now context result }
 {
     let n = fields.len();
@@ -41,7 +41,7 @@ pub fn read_records(
     n: usize,
     records: [FieldDef; 63],
     context: Context,
-) -> FieldReading
+) -> Result<(FieldValues, Cursor), Unread>
     ensures { ReadRecordsOwes s.now from n records context result }
 {
     read_field_values(s, from, &records[..n.min(63)], context)
