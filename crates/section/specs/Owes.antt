@@ -70,7 +70,12 @@ SettleInOwes d w g raws z v r after = told_beside r after ≡ handed (settled d 
 -- the whole walk with its values, and of its fields as many as the answer hands out in a buffer
 abbrev pub HandOutOwes : Definition → Settled → Values → (out : List ℕ) → Looked → (after : List ℕ) → Type 0
 HandOutOwes d x v out r after =
-    told r after ≡ record { said = paper_of x.answer; trials = x.walk.tally.trials; walk = walk_of x.walk v; out = sets out 0 (take (hands_out d x.answer) v.fields) }
+    told r after ≡ record {
+      said = paper_of x.answer;
+      trials = x.walk.tally.trials;
+      walk = walk_of x.walk v;
+      out = sets out 0 (take (hands_out d x.answer) v.fields);
+    }
 
 -- one look at a section, and a buffer before and after it
 abbrev pub LookOwes : Definition → Walk → List ℕ → (out : List ℕ) → Looked → (after : List ℕ) → Type 0

@@ -44,7 +44,7 @@ fn one_more(counts: [usize; 4], i: usize) -> [usize; 4]
 
 impl Tally {
     // The tally behind a look at a section of so many bytes.
-    #[tactic(auto, unfolding(extent::specs::Extent::span, crate::specs::Tally::tally_after, crate::specs::Tally::place_after, crate::specs::Tally::ending_after, crate::specs::Tally::counts_after, crate::specs::Tally::trials_after))]
+    #[tactic(auto, unfolding(extent::specs::Extent::span))]
     pub fn after(self, seen: Seen, length: usize) -> Tally
         requires { Fits self seen length }
         ensures { AfterOwes self seen length result }

@@ -182,7 +182,7 @@ fn accept(
 }
 
 // What a look does to a walk over a section of so many bytes.
-#[tactic(auto, unfolding(crate::specs::Walk::settled, crate::specs::Walk::answer_after, crate::specs::Walk::fields_after, crate::specs::Walk::history_after))]
+#[tactic(auto, unfolding(crate::specs::Walk::settled, crate::specs::Walk::answer_after, crate::specs::Walk::fields_after, crate::specs::Walk::history_after,))]
 pub fn settle_in(
     d: Definition,
     w: Light,

@@ -16,6 +16,6 @@ hand_out-requires c = most _ c.requires.1
 
 pub returns : goal.returns
 returns c =
-    handed_out _ c.requires.1 _ (settled_full _ c.requires.1 c.args.l c.args.length c.args.w) _ _
-    (c.settle_in-settled.ensures ∙ ap (λ w. handed (settled c.args.d c.args.l c.args.length w) (replicate 62 0)) (light_whole c.args.w c.light.ensures c.values-values.ensures)) _ _
-    c.hand_out.ensures
+    let whole = light_whole c.args.w c.light.ensures c.values-values.ensures in
+    let told = c.settle_in-settled.ensures ∙ ap (λ w. handed (settled c.args.d c.args.l c.args.length w) (replicate 62 0)) whole in
+    handed_out _ c.requires.1 _ (settled_full _ c.requires.1 c.args.l c.args.length c.args.w) _ _ told _ _ c.hand_out.ensures
