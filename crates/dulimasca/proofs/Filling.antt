@@ -1,9 +1,12 @@
 -- The ways through `dulimasca_fill`: no definition, no such kind, a refusal, no room for the numbers, a frame or how the walk ended before it.
 -- A frame's fields are the first values of the inner buffer.
-use Prim.Native.Nat.{ℕ, ◌/◌, ◌<◌, ◌≤◌}
+use Prim.Native.Nat.{ℕ, ◌*◌, ◌/◌, ◌<◌, ◌≤◌}
+use Rattle.std.specs.Prelude.{Option, Some, None, Result, Ok, Err}
+use Rattle.std.specs.Option.{ok_or}
 use mathlib.Core.Bool.{true, false}
 use mathlib.Core.List.{List}
-use mathlib.Core.Path.{◌≡◌, sym, ap, ap₂, ◌∙◌}
+use mathlib.Core.Path.{◌≡◌, refl, sym, ap, ap₂, ◌∙◌}
+use native.Mathlib.Nat.{one-mul}
 use native.Mathlib.Omega.{arith}
 use lib.ListN.{length, take}
 use lib.Seq.{sets}
@@ -12,59 +15,73 @@ use Rattle.plan.specs.declared.Definition.{Definition}
 use Rattle.plan.specs.Sound.{sound}
 use Rattle.reader.specs.Place.{padded}
 use Rattle.section.specs.declared.Answer.{Answer}
-use Rattle.section.specs.declared.Check.{Check}
-use Rattle.section.specs.declared.Check.TheVariants.{Pass, Refused}
 use Rattle.section.specs.declared.Looked.{Looked}
 use Rattle.section.specs.declared.Refusal.{Refusal}
-use Rattle.section.specs.declared.Walk.{Walk}
+use Rattle.section.specs.declared.Refusal.TheVariants.{Unsound, TooShort}
 use Rattle.section.specs.Answers.{Told, paper_of, hands_out, handed, checked_first}
 use Rattle.section.specs.Fits.{Rooms}
-use Rattle.section.specs.Refusals.{admitted, needed, checked}
+use Rattle.section.specs.Refusals.{Check, pass, admitted, needed, checked}
 use Rattle.section.specs.Walk.{Outcome, start}
 use Rattle.section.proofs.Admitted.{admitted_sound, needed_rooms, checked_pass}
 use Rattle.section.proofs.Paper.{paper_injective}
 use Rattle.octets.specs.Bytes.{words, longs}
-use Rattle.store.specs.declared.TakenDefinition.{TakenDefinition}
 use Rattle.store.specs.Definition.{taken_definition}
 use Rattle.walks.specs.declared.Goal.TheVariants.{Frame}
-use Rattle.walks.specs.declared.Sort.{Sort}
+use Rattle.plan.specs.declared.Sort.{Sort}
 use Rattle.walks.specs.Owes as walks
 use Rattle.walks.specs.Walks.{walked, filled_of}
-use Rattle.walks.proofs.Fields.{begins_with, hands_out_rooms, hands_out_few, walked_full}
-use Rattle.dulimasca.specs.declared.walking.SortFor.{SortFor}
+use Rattle.section.proofs.Fields.{begins_with, hands_out_rooms, hands_out_few}
+use Rattle.walks.proofs.Fields.{walked_full}
 use Rattle.dulimasca.specs.Calls.{fill_numbers, filled, checked_fill, fill_by, fill_of}
 use Rattle.dulimasca.specs.Owes.{FillOwes}
-use Rattle.dulimasca.specs.Told.{Reply, packed, packed_by, told_length, reply, refuse, refuse10, if_room, sort_for}
-use Rattle.dulimasca.proofs.Replying.{tells, refuses, room_there, room_short}
-use Rattle.dulimasca.proofs.Taken.{taken, not_taken}
+use Rattle.dulimasca.specs.Told.{Reply, packed, packed_by, in_bytes, roomy, told_length, reply, refuse, refuse10, if_room, sort_for}
+use Rattle.dulimasca.proofs.Replying.{tells, long_enough, room_there, room_short}
+use Rattle.dulimasca.proofs.Taken.{given, missing, taken, not_taken}
+
+-- ## What the check says, its length in bytes
+
+passed_in : (c : Check) {u : Unit {0}} → ◌≡◌ {A = Check} (Ok u) (in_bytes c 4) → c ≡ pass
+unfolding in_bytes
+passed_in (Ok u) e = refl
+passed_in (Err Unsound) e = let z : ◌≡◌ {A = ℕ} 0 1 = cc in absurd (omega arith)
+passed_in (Err (TooShort n)) e = let z : ◌≡◌ {A = ℕ} 0 1 = cc in absurd (omega arith)
+
+refused_in : (c : Check) (o : Outcome) (out told : List ℕ) {why : Refusal} → ◌≡◌ {A = Check} (Err why) (in_bytes c 4)
+    → reply (packed_by why 1) out told ≡ checked_fill c o out told
+unfolding in_bytes checked_fill packed_by
+refused_in (Ok u) o out told e = let z : ◌≡◌ {A = ℕ} 0 1 = cc in absurd (omega arith)
+refused_in (Err Unsound) o out told {why} e = let f : why ≡ Unsound = cc in ap (λ y. reply (packed_by y 1) out told) f
+refused_in (Err (TooShort n)) o out told {why} e =
+    let f : why ≡ TooShort (4 * n) = cc in
+    ap (λ y. reply (packed_by y 1) out told) f ∙ ap (λ m. reply (packed 11 m 0) out told) (one-mul (4 * n))
 
 -- ## A check that passes
 
-module _ (d : Definition) (w : Walk) (z room : ℕ) {v : Check} (verdict : v ≡ checked d w z room) (pass : v ≡ Pass) where
-  passed : (admitted d z w ≡ true) × Rooms d room
-  passed = checked_pass d w z room (sym verdict ∙ pass)
+module _ (d : Definition) (z room : ℕ) (passes : checked d start z room ≡ pass) where
+  passed : (admitted d z start ≡ true) × Rooms d room
+  passed = checked_pass d start z room passes
 
   is_sound : sound d ≡ true
-  is_sound = admitted_sound d z w passed.0
+  is_sound = admitted_sound d z start passed.0
 
-  pub values_few : (a : Answer) {n : ℕ} → n ≡ hands_out d a → (n ≤ 62) × (n ≤ room)
+  values_few : (a : Answer) {n : ℕ} → n ≡ hands_out d a → (n ≤ 62) × (n ≤ room)
   values_few a e = rw e (hands_out_few d is_sound a, hands_out_rooms d passed.1 a)
 
   -- 62 places are enough for the inner walk
-  inner_passes : checked d w z 62 ≡ Pass
+  inner_passes : checked d start z 62 ≡ pass
   unfolding checked
   inner_passes = simp (passed.0, le-leb (needed d) 62 (needed_rooms d is_sound))
 
 -- ## The inner walk
 
-module _ (d : Definition) (s : List ℕ) (of : Sort) (k : ℕ) (sane : sound d ≡ true) (pass : checked d start (length s) 62 ≡ Pass) where
+module _ (d : Definition) (s : List ℕ) (of : Sort) (k : ℕ) (sane : sound d ≡ true) (passes : checked d start (length s) 62 ≡ pass) where
   abbrev end : Outcome
   end = walked (Frame of k) d s start
 
   module _ (buf : List ℕ) (l : length buf ≡ 62) (x : Looked) {after : List ℕ} (fills : walks.FillOwes d s of k buf x after) where
     tells_end : filled_of of k d s buf ≡ handed end buf
     unfolding filled_of checked_first
-    tells_end = ap (λ (y : Check). checked_first y end start buf) (ap (checked d start (length s)) l ∙ pass)
+    tells_end = ap (λ (y : Check). checked_first y end start buf) (ap (checked d start (length s)) l ∙ passes)
 
     same_answer : x.answer ≡ end.answer
     unfolding handed
@@ -93,54 +110,54 @@ module _ (d : Definition) (s : List ℕ) (of : Sort) (k : ℕ) (sane : sound d �
 
 -- ## The ways
 
-module _ (def s : List ℕ) (kind k : ℕ) (out told : List ℕ) {r : TakenDefinition} (e : r ≡ taken_definition def) where
-  -- that this refusal writes nothing, the function itself shows
-  pub fill_no_definition : {a : ℕ} → r.is_one ≡ false → reply a out told ≡ refuse10 out told → FillOwes def s kind k out told a out told
-  unfolding fill_of
-  fill_no_definition f h = h ∙ simp (not_taken def e f)
+module _ (def s : List ℕ) (kind k : ℕ) (out told : List ℕ) where
+  pub fill_no_definition : {why : Refusal} → Err why ≡ ok_or (taken_definition def) Unsound → FillOwes def s kind k out told (packed_by why 1) out told
+  unfolding fill_of packed_by
+  fill_no_definition e = let p = not_taken def e in rw (p.1, p.0)
 
-  module _ (t : r.is_one ≡ true) {which : SortFor} (g : which ≡ sort_for kind) where
-    by_sort : fill_by which r.definition s k out told ≡ fill_of def s kind k out told
+  module _ {d : Definition} (e : Ok d ≡ ok_or (taken_definition def) Unsound) where
+    by_sort : {which : Option Sort} → sort_for kind ≡ which → fill_by which d s k out told ≡ fill_of def s kind k out told
     unfolding fill_of
-    by_sort = simp (g, (taken def e t).1, (taken def e t).0)
+    by_sort g = simp (sym g, (taken def e).1, (taken def e).0)
 
-    pub fill_no_kind : {a : ℕ} → which.is_one ≡ false → a ≡ packed 10 0 0 → FillOwes def s kind k out told a out told
-    unfolding fill_by
-    fill_no_kind f h = let no : refuse 10 0 out told ≡ fill_by which r.definition s k out told = simp f in refuses out told h ∙ no ∙ by_sort
+    pub fill_no_kind : {why : Refusal} → Err why ≡ ok_or (sort_for kind) Unsound → FillOwes def s kind k out told (packed_by why 1) out told
+    unfolding fill_by packed_by
+    fill_no_kind g = let p = missing (sort_for kind) g in ap (λ y. reply (packed_by y 1) out told) p.1 ∙ by_sort p.0
 
-    module _ (u : which.is_one ≡ true) {w : Walk} (first : w ≡ start) {v : Check} (verdict : v ≡ checked r.definition w (length s) (length out / 4)) where
+    module _ {of : Sort} (g : Ok of ≡ ok_or (sort_for kind) Unsound) where
+      abbrev verdict : Check
+      verdict = checked d start (length s) (length out / 4)
+
       found : Outcome
-      found = walked (Frame which.sort k) r.definition s start
+      found = walked (Frame of k) d s start
 
-      judged : Check → Reply
-      judged y = checked_fill y found out told
+      by_check : checked_fill verdict found out told ≡ fill_of def s kind k out told
+      unfolding fill_by found
+      by_check = by_sort (given (sort_for kind) g)
 
-      by_check : judged v ≡ fill_of def s kind k out told
-      unfolding fill_by judged found
-      by_check =
-          let one : judged (checked r.definition start (length s) (length out / 4)) ≡ fill_by which r.definition s k out told = simp u in
-          ap judged (verdict ∙ ap (λ x. checked r.definition x (length s) (length out / 4)) first) ∙ one ∙ by_sort
+      pub fill_refused : {why : Refusal} → ◌≡◌ {A = Check} (Err why) (in_bytes verdict 4) → FillOwes def s kind k out told (packed_by why 1) out told
+      fill_refused is = refused_in verdict found out told is ∙ by_check
 
-      pub fill_refused : {why : Refusal} {a : ℕ} → v ≡ Refused why → a ≡ packed_by why 4 → FillOwes def s kind k out told a out told
-      unfolding checked_fill judged
-      fill_refused is h = refuses out told h ∙ ap judged (sym is) ∙ by_check
-
-      module _ (pass : v ≡ Pass) where
+      module _ {u : Unit {0}} (passes : ◌≡◌ {A = Check} (Ok u) (in_bytes verdict 4)) where
         by_room : if_room (filled found out told) out told ≡ fill_of def s kind k out told
-        unfolding checked_fill judged
-        by_room = ap judged (sym pass) ∙ by_check
+        unfolding checked_fill
+        by_room = ap (λ y. checked_fill y found out told) (sym (passed_in verdict passes)) ∙ by_check
 
-        pub fill_untold : {a : ℕ} → length told < told_length → a ≡ packed 11 told_length 0 → FillOwes def s kind k out told a out told
-        fill_untold h i = room_short (filled found out told) out told h i ∙ by_room
+        pub fill_untold : {why : Refusal} → ◌≡◌ {A = Check} (Err why) (roomy told told_length) → FillOwes def s kind k out told (packed_by why 1) out told
+        fill_untold i = room_short (filled found out told) out told i ∙ by_room
 
-        pub fill_given : told_length ≤ length told → (buf : List ℕ) → length buf ≡ 62 → (x : Looked) {after : List ℕ}
-            → walks.FillOwes r.definition s which.sort k buf x after
-            → {n a : ℕ} {out' xs told' : List ℕ} → n ≡ hands_out r.definition x.answer → out' ≡ sets out 0 (words (take n after))
+        pub values_fit : (a : Answer) {n : ℕ} → n ≡ hands_out d a → (n ≤ 62) × (n ≤ length out / 4)
+        values_fit = values_few d (length s) (length out / 4) (passed_in verdict passes)
+
+        pub fill_given : {v : Unit {0}} → ◌≡◌ {A = Check} (Ok v) (roomy told told_length) → (buf : List ℕ) → length buf ≡ 62 → (x : Looked) {after : List ℕ}
+            → walks.FillOwes d s of k buf x after
+            → {n a : ℕ} {out' xs told' : List ℕ} → n ≡ hands_out d x.answer → out' ≡ sets out 0 (words (take n after))
             → xs ≡ padded 8 (fill_numbers x.answer x.trials) → told' ≡ sets told 0 (longs xs) → a ≡ (paper_of x.answer).number
             → FillOwes def s kind k out told a out' told'
         unfolding found
-        fill_given h buf l x fills n put numbers tell is =
-            let d = r.definition in
-            let sane = is_sound d w (length s) (length out / 4) verdict pass in
-            let enough = ap (λ y. checked d y (length s) 62) (sym first) ∙ inner_passes d w (length s) (length out / 4) verdict pass in
-            values_given d s which.sort k sane enough buf l x fills out told n put numbers tell is ∙ room_there (filled found out told) out told h ∙ by_room
+        fill_given room buf l x fills n put numbers tell is =
+            let p = passed_in verdict passes in
+            values_given d s of k (is_sound d (length s) (length out / 4) p) (inner_passes d (length s) (length out / 4) p)
+            buf l x fills out told n put numbers tell is
+            ∙ room_there (filled found out told) out told (long_enough told told_length room)
+            ∙ by_room

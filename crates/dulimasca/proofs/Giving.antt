@@ -1,82 +1,85 @@
 -- The ways through `dulimasca_rows`: no definition, no state, a refusal, no room for the numbers, rows and the walk behind them.
-use Prim.Native.Nat.{ℕ, ◌<◌, ◌≤◌}
-use mathlib.Core.Bool.{true, false, cond}
+use Prim.Native.Nat.{ℕ, ◌/◌, ◌<◌, ◌≤◌}
+use Rattle.std.specs.Prelude.{Option, Result, Ok, Err}
+use Rattle.std.specs.Option.{ok_or}
 use mathlib.Core.List.{List, [], ◌∷◌, ◌++◌}
 use mathlib.Core.Path.{◌≡◌, refl, sym, ap, ◌∙◌}
-use lib.Dec.{leb}
 use lib.ListN.{length}
 use lib.Seq.{sets}
 use borrow.Author.Tests.{le-leb, lt-leb}
+use Rattle.plan.specs.declared.Definition.{Definition}
 use Rattle.reader.specs.Place.{padded}
-use Rattle.section.specs.declared.Check.{Check}
-use Rattle.section.specs.declared.Check.TheVariants.{Pass, Refused}
 use Rattle.section.specs.declared.Refusal.{Refusal}
+use Rattle.section.specs.declared.Refusal.TheVariants.{Unsound, TooShort}
+use Rattle.section.specs.declared.Walk.{Walk}
+use Rattle.section.specs.Refusals.{Check}
 use Rattle.rows.specs.declared.Laid.{Laid}
-use Rattle.rows.specs.Owes.{NextOwes}
-use Rattle.rows.specs.Rows.{Told, checked_rows, next_rows}
-use Rattle.rows.proofs.Checked.{next_check, next_kept}
-use Rattle.store.specs.declared.TakenDefinition.{TakenDefinition}
-use Rattle.store.specs.declared.TakenState.{TakenState}
+use Rattle.rows.specs.Owes.{CheckOwes, NextOwes}
+use Rattle.rows.specs.Rows.{Told, Rows, row_length, rows_from, checked_rows, laid_out, checked_first, next_rows}
+use Rattle.rows.proofs.Checked.{check_is, next_kept}
 use Rattle.store.specs.Definition.{taken_definition}
 use Rattle.store.specs.State.{taken_state, with_state}
 use Rattle.octets.specs.Bytes.{longs}
-use Rattle.dulimasca.specs.Calls.{kept, rows_reply, untold_by, checked_reply, rows_by, rows_of}
+use Rattle.dulimasca.specs.Calls.{RowsReply, kept, rows_reply, checked_reply, rows_by, rows_of}
 use Rattle.dulimasca.specs.Owes.{RowsOwes}
 use Rattle.dulimasca.specs.Told.{packed, packed_by, told_length, reply, refuse, refuse10, status_by, tally_numbers}
-use Rattle.dulimasca.proofs.Replying.{tells, refuses}
-use Rattle.dulimasca.proofs.Taken.{taken, not_taken}
-use Rattle.dulimasca.proofs.TakenState.{walk_taken, walk_not_taken}
+use Rattle.dulimasca.proofs.Replying.{tells, packed_short}
+use Rattle.dulimasca.proofs.Taken.{taken, not_taken, walk_taken, walk_not_taken}
 
-untold : (c : Check) (x : Told) (st out told : List ℕ) → length told < told_length → kept st (reply (untold_by c) out told) ≡ checked_reply c x st out told
-unfolding checked_reply untold_by
-untold Pass x st out told h = rw (lt-leb told_length (length told) h)
-untold (Refused why) x st out told h = refl
+-- what the rows' check refuses, and what it lets through without room for the numbers
+refused : (c : Check) (x : Rows) (st out told : List ℕ) {why : Refusal} → c ≡ Err why
+    → kept st (reply (packed_by why 1) out told) ≡ checked_reply (checked_first c x out).given (checked_first c x out).out st out told
+unfolding checked_reply checked_first
+refused c x st out told is = rw is
 
-module _ (def st s out told : List ℕ) {r : TakenDefinition} (e : r ≡ taken_definition def) where
-  -- that this refusal writes nothing, the function itself shows
-  pub rows_no_definition : {a : ℕ} → r.is_one ≡ false → reply a out told ≡ refuse10 out told → RowsOwes def st s out told a st out told
-  unfolding rows_of
-  rows_no_definition f h = ap (kept st) h ∙ simp (not_taken def e f)
+untold : (c : Check) (x : Rows) (st out told : List ℕ) {u : Unit {0}} → c ≡ Ok u → length told < told_length
+    → kept st (reply (packed_by (TooShort told_length) 1) out told) ≡ checked_reply (checked_first c x out).given (checked_first c x out).out st out told
+unfolding checked_reply checked_first laid_out
+untold c x st out told is h = rw (is, lt-leb told_length (length told) h, packed_short told_length)
 
-  module _ (t : r.is_one ≡ true) {v : TakenState} (g : v ≡ taken_state st) where
-    pub rows_no_state : {a : ℕ} → v.is_one ≡ false → a ≡ packed 10 0 0 → RowsOwes def st s out told a st out told
-    unfolding rows_of
-    rows_no_state f h = ap (kept st) (refuses out told h) ∙ simp ((taken def e t).0, walk_not_taken st g f)
+module _ (def st s out told : List ℕ) where
+  pub rows_no_definition : {why : Refusal} → Err why ≡ ok_or (taken_definition def) Unsound → RowsOwes def st s out told (packed_by why 1) st out told
+  unfolding rows_of packed_by
+  rows_no_definition e = let p = not_taken def e in rw (p.1, p.0)
 
-    module _ (u : v.is_one ≡ true) where
+  module _ {d : Definition} (e : Ok d ≡ ok_or (taken_definition def) Unsound) where
+    pub rows_no_state : {why : Refusal} → Err why ≡ ok_or (taken_state st) Unsound → RowsOwes def st s out told (packed_by why 1) st out told
+    unfolding rows_of packed_by
+    rows_no_state g = let p = walk_not_taken st g in rw (p.1, (taken def e).0, p.0)
+
+    module _ {w : Walk} (g : Ok w ≡ ok_or (taken_state st) Unsound) where
       abbrev next : Told
-      next = next_rows r.definition s v.walk out
+      next = next_rows d s w out
 
-      by_check : {c : Check} → c ≡ checked_rows r.definition v.walk (length s) (length out) → checked_reply c next st out told ≡ rows_of def st s out told
+      by_next : checked_reply next.given next.out st out told ≡ rows_of def st s out told
       unfolding rows_of rows_by
-      by_check verdict =
-          let all : rows_by r.definition v.walk st s out told ≡ rows_of def st s out told =
-          simp ((taken def e t).1, (walk_taken st g u).1, (taken def e t).0, (walk_taken st g u).0) in
-          ap (λ (y : Check). checked_reply y next st out told) verdict ∙ all
+      by_next = simp ((taken def e).1, (walk_taken st g).1, (taken def e).0, (walk_taken st g).0)
 
-      pub rows_untold : {a : ℕ} → length told < told_length → a ≡ untold_by (checked_rows r.definition v.walk (length s) (length out))
-          → RowsOwes def st s out told a st out told
-      rows_untold h i = ap (λ y. kept st (reply y out told)) i ∙ untold _ next st out told h ∙ by_check refl
+      pub rows_unchecked : (why : Refusal) → CheckOwes d w (length s) (length out) (Err why) → RowsOwes def st s out told (packed_by why 1) st out told
+      unfolding next_rows
+      rows_unchecked why verdict =
+          refused (checked_rows d w (length s) (length out)) (rows_from d s (length out / row_length d) w) st out told (sym (check_is d w _ _ verdict)) ∙ by_next
 
-      module _ (x : Laid) {out' : List ℕ} (owes : NextOwes r.definition v.walk s out x out') where
-        by_next : {c : Check} → x.check ≡ c → checked_reply c next st out told ≡ rows_of def st s out told
-        by_next is = by_check (sym is ∙ next_check r.definition s v.walk out x owes)
+      pub rows_untold : (u : Unit {0}) → CheckOwes d w (length s) (length out) (Ok u) → length told < told_length
+          → RowsOwes def st s out told (packed_by (TooShort told_length) 1) st out told
+      unfolding next_rows
+      rows_untold u verdict h =
+          untold (checked_rows d w (length s) (length out)) (rows_from d s (length out / row_length d) w) st out told (sym (check_is d w _ _ verdict)) h ∙ by_next
 
-        pub rows_refused : {why : Refusal} {a : ℕ} → x.check ≡ Refused why → a ≡ packed_by why 1 → RowsOwes def st s out told a st out' told
-        unfolding checked_reply
-        rows_refused is h =
-            (λ i. record { answer = h i; state = st; out = next_kept r.definition s v.walk out x owes is i; told = told }) ∙ by_next is
+      pub rows_refused : (why : Refusal) {out' : List ℕ} → NextOwes d w s out (Err why) out' → RowsOwes def st s out told (packed_by why 1) st out' told
+      unfolding next_rows
+      rows_refused why owes =
+          let p = next_kept d s w out owes in
+          ap (λ o. kept st (reply (packed_by why 1) o told)) p.1
+          ∙ refused (checked_rows d w (length s) (length out)) (rows_from d s (length out / row_length d) w) st out told p.0
+          ∙ by_next
 
-        by_room : x.check ≡ Pass
-            → cond (leb told_length (length told)) (rows_reply next st told) (kept st (refuse 11 told_length out told)) ≡ rows_of def st s out told
-        unfolding checked_reply
-        by_room pass = by_next {c = Pass} pass
-
-        pub rows_given : told_length ≤ length told → x.check ≡ Pass → {a : ℕ} {st' xs told' : List ℕ} → st' ≡ with_state x.walk st
-            → xs ≡ padded 8 (tally_numbers x.walk.tally ++ (x.count ∷ [])) → told' ≡ sets told 0 (longs xs)
-            → a ≡ status_by x.walk.tally.ending → RowsOwes def st s out told a st' out' told'
-        unfolding rows_reply
-        rows_given h pass put numbers tell n =
-            (λ i. record { answer = n i; state = put i; out = out'; told = tells (tally_numbers x.walk.tally ++ (x.count ∷ [])) told numbers tell i })
-            ∙ ap (λ (y : Told). rows_reply y st told) owes
-            ∙ (rw (le-leb told_length (length told) h) at (by_room pass))
+      pub rows_given : told_length ≤ length told → (x : Laid) {out' : List ℕ} → NextOwes d w s out (Ok x) out' → {a : ℕ} {st' xs told' : List ℕ}
+          → st' ≡ with_state x.walk st → xs ≡ padded 8 (tally_numbers x.walk.tally ++ (x.count ∷ [])) → told' ≡ sets told 0 (longs xs)
+          → a ≡ status_by x.walk.tally.ending → RowsOwes def st s out told a st' out' told'
+      unfolding rows_reply checked_reply
+      rows_given h x {out'} owes put numbers tell n =
+          let all : checked_reply (Ok x) out' st out told ≡ rows_of def st s out told =
+          ap (λ (y : Told). checked_reply y.given y.out st out told) owes ∙ by_next in
+          (λ i. record { answer = n i; state = put i; out = out'; told = tells (tally_numbers x.walk.tally ++ (x.count ∷ [])) told numbers tell i })
+          ∙ (rw (le-leb told_length (length told) h) at all)

@@ -12,7 +12,7 @@ use Rattle.reader.specs.Place.{padded}
 use Rattle.dulimasca.specs.Told.{told_length, telling, number_told}
 
 num_longs : (vs rest : List ℕ) (i : ℕ) → i < length vs → get_or vs i 0 < 18446744073709551616 → num64 (drop (8 * i) (longs vs ++ rest)) ≡ get_or vs i 0
-unfolding longs le64 le32
+unfolding le64 le32
 num_longs [] rest i h small = absurd (omega arith)
 num_longs (v ∷ vs) rest zero h small = num_le64 v (longs vs ++ rest) small
 num_longs (v ∷ vs) rest (suc i) h small =

@@ -11,4 +11,3 @@ pub mod Replying
 pub mod Statuses
 pub mod Strict
 pub mod Taken
-pub mod TakenState

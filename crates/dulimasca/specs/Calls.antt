@@ -1,26 +1,26 @@
 -- Walks for C (document 01, "Module order", the database host):
 -- the count of a section, the values of one frame, and the rows of a walk that goes on where it stopped.
-use Rattle.std.specs.Prelude.{ℕ, ◌/◌, cond, ◌&&◌, List, [], ◌∷◌, ◌++◌, leb, length}
+use Rattle.std.specs.Prelude.{ℕ, ◌/◌, cond, ◌&&◌, Option, Some, None, Result, Ok, Err, List, [], ◌∷◌, ◌++◌, leb, length}
 use Rattle.std.proofs.lemmas.List.Edits.{sets}
 use Rattle.plan.specs.declared.Definition.{Definition}
+use Rattle.plan.specs.declared.Sort.{Sort}
 use Rattle.plan.specs.Sound.{sound}
 use Rattle.reader.specs.Place.{padded}
 use Rattle.section.specs.declared.Answer.{Answer}
-use Rattle.section.specs.declared.Check.{Check}
-use Rattle.section.specs.declared.Check.TheVariants as check
+use Rattle.section.specs.declared.Refusal.{Refusal}
 use Rattle.section.specs.declared.Tally.{Tally}
 use Rattle.section.specs.declared.Walk.{Walk}
 use Rattle.section.specs.Answers.{paper_of}
-use Rattle.section.specs.Refusals.{checked}
+use Rattle.section.specs.Refusals.{Check, checked}
 use Rattle.section.specs.Walk.{Outcome, start}
 use Rattle.walks.specs.declared.Goal.TheVariants.{End, Frame}
 use Rattle.walks.specs.Walks.{walked}
 use Rattle.octets.specs.Bytes.{words}
 use Rattle.store.specs.Definition.{is_definition, definition_at}
 use Rattle.store.specs.State.{is_state, walk_at, with_state}
-use Rattle.rows.specs.Rows as rows
-use Rattle.dulimasca.specs.declared.walking.SortFor.{SortFor}
-use Rattle.dulimasca.specs.Told.{Reply, reply, packed, told_length, telling, refuse, refuse10, if_room, packed_by, status_by, tally_numbers, sort_for}
+use Rattle.rows.specs.declared.Laid.{Laid}
+use Rattle.rows.specs.Rows.{next_rows}
+use Rattle.dulimasca.specs.Told.{Reply, reply, told_length, telling, refuse, refuse10, if_room, packed_by, status_by, tally_numbers, sort_for}
 
 -- ## The count of a section
 
@@ -45,14 +45,13 @@ unfoldable pub filled : Outcome → (out told : List ℕ) → Reply
 filled o out told = reply (paper_of o.answer).number (sets out 0 (words o.fields)) (telling (fill_numbers o.answer o.walk.tally.trials) told)
 
 unfoldable pub checked_fill : Check → Outcome → (out told : List ℕ) → Reply
-checked_fill check.Pass o out told = if_room (filled o out told) out told
-checked_fill (check.Refused why) o out told = reply (packed_by why 4) out told
+checked_fill (Ok u) o out told = if_room (filled o out told) out told
+checked_fill (Err why) o out told = reply (packed_by why 4) out told
 
-unfoldable pub fill_by : SortFor → Definition → (s : List ℕ) → (k : ℕ) → (out told : List ℕ) → Reply
-fill_by of d s k out told =
-    cond of.is_one
-    (checked_fill (checked d start (length s) (length out / 4)) (walked (Frame of.sort k) d s start) out told)
-    (refuse10 out told)
+unfoldable pub fill_by : Option Sort → Definition → (s : List ℕ) → (k : ℕ) → (out told : List ℕ) → Reply
+fill_by None d s k out told = refuse10 out told
+fill_by (Some of) d s k out told =
+    checked_fill (checked d start (length s) (length out / 4)) (walked (Frame of k) d s start) out told
 
 unfoldable pub fill_of : (def s : List ℕ) → (kind k : ℕ) → (out told : List ℕ) → Reply
 fill_of def s kind k out told = cond (is_definition def) (fill_by (sort_for kind) (definition_at def) s k out told) (refuse10 out told)
@@ -70,27 +69,23 @@ pub record RowsReply : Type 0 where
 abbrev pub kept : (state : List ℕ) → Reply → RowsReply
 kept st r = record { answer = r.answer; state = st; out = r.lent; told = r.told }
 
--- how the walk stands behind the rows: its status, the walk as bytes, its tally, and how many rows there are
-unfoldable pub rows_reply : rows.Told → (st told : List ℕ) → RowsReply
-rows_reply x st told =
+-- how the walk stands behind the rows, which are in the buffer now: its status, the walk as bytes, its tally, and how many rows there are
+unfoldable pub rows_reply : Laid → (lent st told : List ℕ) → RowsReply
+rows_reply x lent st told =
     record {
       answer = status_by x.walk.tally.ending;
       state = with_state x.walk st;
-      out = x.out;
+      out = lent;
       told = telling (tally_numbers x.walk.tally ++ (x.count ∷ [])) told;
     }
 
 -- without room for the numbers: 10, and 11 of the rows' own buffer, come first
-unfoldable pub untold_by : Check → ℕ
-untold_by check.Pass = packed 11 told_length 0
-untold_by (check.Refused why) = packed_by why 1
-
-unfoldable pub checked_reply : Check → rows.Told → (st out told : List ℕ) → RowsReply
-checked_reply check.Pass x st out told = cond (leb told_length (length told)) (rows_reply x st told) (kept st (refuse 11 told_length out told))
-checked_reply (check.Refused why) x st out told = kept st (reply (packed_by why 1) out told)
+unfoldable pub checked_reply : Result Laid Refusal → (lent st out told : List ℕ) → RowsReply
+checked_reply (Ok x) lent st out told = cond (leb told_length (length told)) (rows_reply x lent st told) (kept st (refuse 11 told_length out told))
+checked_reply (Err why) lent st out told = kept st (reply (packed_by why 1) out told)
 
 unfoldable pub rows_by : Definition → Walk → (st s out told : List ℕ) → RowsReply
-rows_by d w st s out told = checked_reply (rows.checked_rows d w (length s) (length out)) (rows.next_rows d s w out) st out told
+rows_by d w st s out told = let x = next_rows d s w out in checked_reply x.given x.out st out told
 
 unfoldable pub rows_of : (def st s out told : List ℕ) → RowsReply
 rows_of def st s out told = cond (is_definition def && is_state st) (rows_by (definition_at def) (walk_at st) st s out told) (kept st (refuse10 out told))

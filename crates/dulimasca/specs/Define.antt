@@ -1,22 +1,22 @@
 -- A log's settings and its definition for C, each from its `H` lines into a lent buffer; a walk's first state; the names of fields.
-use Rattle.std.specs.Prelude.{ℕ, cond, List, [], ◌∷◌, leb, length}
-use Rattle.std.proofs.Math.Option.{none, some}
+use Rattle.std.specs.Prelude.{ℕ, cond, Option, Some, None, Err, List, [], ◌∷◌, leb, length}
 use Rattle.plan.specs.declared.Definition.{Definition}
+use Rattle.plan.specs.declared.Sort.{Sort}
 use Rattle.items.specs.declared.Stretch.{Stretch}
-use Rattle.items.specs.declared.Stretch.TheVariants as stretch
 use Rattle.header.specs.declared.Header.{Header}
 use Rattle.header.specs.Header.{header_of}
 use Rattle.definition.specs.Checks.{Finding}
 use Rattle.definition.specs.Defined.{Answer, defined}
 use Rattle.names.specs.Names.{name_at}
+use Rattle.section.specs.declared.Refusal.TheVariants.{Unsound}
+use Rattle.section.specs.Refusals.{Check}
 use Rattle.section.specs.Walk.{start}
 use Rattle.rows.specs.Rows.{row_length}
 use Rattle.settings.specs.Said.{said_of}
 use Rattle.settings.specs.Stored.{settings_length, are_settings, numbers_in, settings_in, with_settings}
 use Rattle.store.specs.Definition.{definition_length, with_definition, is_definition, definition_at}
 use Rattle.store.specs.State.{state_length, with_state}
-use Rattle.dulimasca.specs.declared.log.KindFor.{KindFor}
-use Rattle.dulimasca.specs.Told.{Reply, packed, reply, telling, refuse, refuse10, if_room, kind_for, stretch_start, stretch_end}
+use Rattle.dulimasca.specs.Told.{Reply, packed, roomy, told_length, reply, telling, refuse, refuse10, if_room, sort_for, stretch_start, stretch_end}
 
 -- ## What a log says of itself
 
@@ -40,8 +40,8 @@ about_log h d =
 
 -- a definition goes into the buffer; refusals 1 to 9 write nothing
 unfoldable pub defined_reply : Header → Definition → Finding → (buf told : List ℕ) → Reply
-defined_reply h d none buf told = reply 0 (with_definition d buf) (telling (about_log h d) told)
-defined_reply h d (some p) buf told = reply (packed p.number p.place p.round) buf told
+defined_reply h d None buf told = reply 0 (with_definition d buf) (telling (about_log h d) told)
+defined_reply h d (Some p) buf told = reply (packed p.number p.place p.round) buf told
 
 unfoldable pub judged_reply : Header → Answer → (buf told : List ℕ) → Reply
 judged_reply h a buf told = defined_reply h a.definition a.finding buf told
@@ -50,6 +50,10 @@ judged_reply h a buf told = defined_reply h a.definition a.finding buf told
 unfoldable pub defined_by : (log chosen buf told : List ℕ) → Reply
 defined_by log chosen buf told =
     judged_reply (header_of log) (defined log (header_of log).lists (numbers_in chosen) (settings_in chosen)) buf told
+
+-- what is lent: settings, and room for a definition and for the numbers
+unfoldable pub lent_for : (chosen buf told : List ℕ) → Check
+lent_for chosen buf told = cond (are_settings chosen) (cond (leb definition_length (length buf)) (roomy told told_length) (roomy buf definition_length)) (Err Unsound)
 
 -- bytes that are no settings, and buffers that are too short, are refused before the log is looked at
 unfoldable pub define_of : (log chosen buf told : List ℕ) → Reply
@@ -69,14 +73,14 @@ start_of st told =
 -- ## A field's name
 
 -- where it begins and ends in the list of its kind; status 4 where the definition has no such field, or the list no such item
-unfoldable pub name_reply : Stretch → (told : List ℕ) → Reply
-name_reply (stretch.At a b) told = reply 0 [] (telling (a ∷ b ∷ []) told)
-name_reply stretch.Absent told = reply 4 [] (telling [] told)
+unfoldable pub name_reply : Option Stretch → (told : List ℕ) → Reply
+name_reply (Some name) told = reply 0 [] (telling (name.start ∷ name.end ∷ []) told)
+name_reply None told = reply 4 [] (telling [] told)
 
-unfoldable pub name_by : KindFor → Definition → (main slow : List ℕ) → (k : ℕ) → (told : List ℕ) → Reply
-name_by which d main slow k told =
-    cond which.is_one (if_room (name_reply (name_at d which.kind main slow k) told) [] told) (refuse10 [] told)
+unfoldable pub name_by : Option Sort → Definition → (main slow : List ℕ) → (k : ℕ) → (told : List ℕ) → Reply
+name_by None d main slow k told = refuse10 [] told
+name_by (Some of) d main slow k told = if_room (name_reply (name_at d of main slow k) told) [] told
 
 unfoldable pub name_of : (def : List ℕ) → (kind : ℕ) → (main slow : List ℕ) → (k : ℕ) → (told : List ℕ) → Reply
 name_of def which main slow k told =
-    cond (is_definition def) (name_by (kind_for which) (definition_at def) main slow k told) (refuse10 [] told)
+    cond (is_definition def) (name_by (sort_for which) (definition_at def) main slow k told) (refuse10 [] told)

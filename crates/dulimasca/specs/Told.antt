@@ -1,19 +1,18 @@
 -- What C is told: one number, below 256 a status and from 256 on a refusal, and beside a status eight numbers in lent bytes.
-use Rattle.std.specs.Prelude.{ℕ, ◌+◌, ◌*◌, min, List, [], ◌∷◌, true, false, cond, eqb, leb, length, get_or, drop}
+use Rattle.std.specs.Prelude.{ℕ, ◌+◌, ◌*◌, min, Option, Some, None, Result, Ok, Err, List, [], ◌∷◌, cond, eqb, leb, length, get_or, drop}
+use Rattle.std.specs.Option.{unwrap_or}
 use Rattle.std.proofs.lemmas.List.Edits.{sets}
 use Rattle.octets.specs.Bytes.{longs, num64}
 use Rattle.items.specs.declared.Stretch.{Stretch}
-use Rattle.items.specs.declared.Stretch.TheVariants as stretch
-use Rattle.names.specs.declared.Kind.TheVariants as kind
+use Rattle.plan.specs.declared.Sort.{Sort}
+use Rattle.plan.specs.declared.Sort.TheVariants.{Main, Slow}
 use Rattle.reader.specs.Place.{padded}
 use Rattle.section.specs.declared.Ending.{Ending}
 use Rattle.section.specs.declared.Ending.TheVariants.{Going, Done, Out, Cut}
 use Rattle.section.specs.declared.Refusal.{Refusal}
 use Rattle.section.specs.declared.Refusal.TheVariants.{Unsound, TooShort}
 use Rattle.section.specs.declared.Tally.{Tally}
-use Rattle.walks.specs.declared.Sort.TheVariants as sort
-use Rattle.dulimasca.specs.declared.log.KindFor.{KindFor}
-use Rattle.dulimasca.specs.declared.walking.SortFor.{SortFor}
+use Rattle.section.specs.Refusals.{Check, pass}
 
 -- ## A refusal in one number
 
@@ -71,6 +70,21 @@ unfoldable pub packed_by : Refusal → (bytes : ℕ) → ℕ
 packed_by Unsound b = packed 10 0 0
 packed_by (TooShort n) b = packed 11 (b * n) 0
 
+-- what C is answered: a status, or a refusal in one number
+abbrev pub answered : Result ℕ Refusal → ℕ
+answered (Ok status) = status
+answered (Err why) = packed_by why 1
+
+-- a needed length told in bytes
+unfoldable pub in_bytes : Check → (bytes : ℕ) → Check
+in_bytes (Ok u) b = pass
+in_bytes (Err Unsound) b = Err Unsound
+in_bytes (Err (TooShort n)) b = Err (TooShort (b * n))
+
+-- lent bytes that have to be so many
+unfoldable pub roomy : (lent : List ℕ) → (least : ℕ) → Check
+roomy lent least = cond (leb least (length lent)) pass (Err (TooShort least))
+
 -- ## Statuses and numbers
 
 -- 0: there may be more; 1 out of data; 2 cut; 3 done
@@ -94,23 +108,16 @@ tally_numbers t =
     ∷ get_or t.counts 0 0 ∷ get_or t.counts 1 0 ∷ get_or t.counts 2 0 ∷ get_or t.counts 3 0
     ∷ t.trials ∷ []
 
--- 0 main, 1 slow: which frames have values
-unfoldable pub sort_for : ℕ → SortFor
-sort_for n =
-    cond (eqb n 0) (record { is_one = true; sort = sort.Main })
-    (cond (eqb n 1) (record { is_one = true; sort = sort.Slow }) (record { is_one = false; sort = sort.Main }))
-
--- 0 main, 1 slow: which fields have names
-unfoldable pub kind_for : ℕ → KindFor
-kind_for n =
-    cond (eqb n 0) (record { is_one = true; kind = kind.Main })
-    (cond (eqb n 1) (record { is_one = true; kind = kind.Slow }) (record { is_one = false; kind = kind.Main }))
+-- 0 main, 1 slow: which frames have values, and which fields have names
+unfoldable pub sort_for : ℕ → Option Sort
+sort_for n = cond (eqb n 0) (Some Main) (cond (eqb n 1) (Some Slow) None)
 
 -- where a stretch begins and ends; an absent one is empty
-unfoldable pub stretch_start : Stretch → ℕ
-stretch_start (stretch.At a b) = a
-stretch_start stretch.Absent = 0
+abbrev nowhere : Stretch
+nowhere = record { start = 0; end = 0 }
 
-unfoldable pub stretch_end : Stretch → ℕ
-stretch_end (stretch.At a b) = b
-stretch_end stretch.Absent = 0
+abbrev pub stretch_start : Option Stretch → ℕ
+stretch_start s = (unwrap_or s nowhere).start
+
+abbrev pub stretch_end : Option Stretch → ℕ
+stretch_end s = (unwrap_or s nowhere).end
