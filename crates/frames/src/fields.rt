@@ -4,7 +4,7 @@ use crate::{LONGEST, parse, show};
 use frame::MainFrame;
 use frame::fields::{Context, Unread};
 use predictor::Surroundings;
-use reader::Cursor;
+use reader::{Cursor, Fault};
 use std::io;
 use std::io::Write;
 use words::three;
@@ -67,8 +67,13 @@ pub fn case(out: &mut impl Write, rest: &[u8]) -> io::Result<bool> {
     out.write_all(b" = ")?;
     match read {
         Ok((fields, behind)) => show::fields(out, fields.values, n, behind)?,
-        Err(Unread::Fault(why)) => show::fault(out, why)?,
-        Err(Unread::Refused(number, place)) => write!(out, "refused {number} {place}")?,
+        Err(Unread::Cut) => show::fault(out, Fault::Cut)?,
+        Err(Unread::Corrupt) => show::fault(out, Fault::Corrupt)?,
+        Err(why) => {
+            if let Some((number, place)) = why.refusal() {
+                write!(out, "refused {number} {place}")?;
+            }
+        }
     }
     Ok(true)
 }

@@ -41,15 +41,13 @@ fn sign(code: u8) -> char {
 // The fields of main frames: intra and inter predictor, intra and inter encoding, sign.
 fn main_fields(out: &mut impl Write, m: Main) -> io::Result<()> {
     for i in 0..m.fields().min(62) {
-        write!(
-            out,
-            " {}/{}/{}/{}/{}",
-            m.intra_predictors[i],
-            m.inter_predictors[i],
-            m.intra_encodings[i],
-            m.inter_encodings[i],
-            sign(m.signs[i])
-        )?;
+        let intra = m.intra_predictors[i];
+        let inter = m.inter_predictors[i];
+        write!(out, " {intra}/{inter}")?;
+        let intra = m.intra_encodings[i];
+        let inter = m.inter_encodings[i];
+        let sign = sign(m.signs[i]);
+        write!(out, "/{intra}/{inter}/{sign}")?;
     }
     Ok(())
 }
@@ -57,13 +55,10 @@ fn main_fields(out: &mut impl Write, m: Main) -> io::Result<()> {
 // The fields of slow frames: predictor, encoding, sign.
 fn slow_fields(out: &mut impl Write, s: Slow) -> io::Result<()> {
     for i in 0..s.n.min(16) {
-        write!(
-            out,
-            " {}/{}/{}",
-            s.predictors[i],
-            s.encodings[i],
-            sign(s.signs[i])
-        )?;
+        let predictor = s.predictors[i];
+        let encoding = s.encodings[i];
+        let sign = sign(s.signs[i]);
+        write!(out, " {predictor}/{encoding}/{sign}")?;
     }
     Ok(())
 }

@@ -6,9 +6,9 @@ use frame::{MainFrame, Mark};
 use history::History;
 use plan::Definition;
 use predictor::Surroundings;
-use reader::{Cursor, Read};
+use reader::{Cursor, Fault};
 use records::FieldDef;
-use section::MainAnswer;
+use section::{Answer, MainAnswer};
 use std::io;
 use std::io::Write;
 
@@ -20,20 +20,18 @@ fn records_of(predictors: [u8; 62], encodings: [u8; 62], signs: [u8; 62]) -> [Fi
     };
     let mut records = [none; 63];
     for i in 0..62 {
-        let field = FieldDef {
+        records[i] = FieldDef {
             predictor: predictors[i],
             encoding: encodings[i],
             signed: signs[i] != 0,
         };
-        records[i] = field;
     }
     records
 }
 
 fn context_of(d: Definition, last: MainFrame, older: MainFrame) -> Context {
-    let numbers = d.numbers;
     let around = Surroundings {
-        numbers,
+        numbers: d.numbers,
         skipped: 0,
     };
     Context {
@@ -45,11 +43,10 @@ fn context_of(d: Definition, last: MainFrame, older: MainFrame) -> Context {
 }
 
 // The place behind a number. A number that the walk has read is there; the section's end stands for one that is not.
-fn behind(read: Read, s: &[u8]) -> Cursor {
+fn behind(read: Result<(u32, Cursor), Fault>, s: &[u8]) -> Cursor {
     match read {
-        Read::Num(_, next) => next,
-        Read::Cut => Cursor { at: s.len() },
-        Read::Corrupt => Cursor { at: s.len() },
+        Ok((_, next)) => next,
+        Err(_) => Cursor { at: s.len() },
     }
 }
 
@@ -61,90 +58,76 @@ fn behind_kind(at: usize, s: &[u8]) -> Cursor {
     Cursor { at }
 }
 
+// A main frame to be read again: of which kind, what the walk has of it, where its fields begin, and what they are read by.
+#[derive(Clone, Copy)]
+pub struct Second {
+    pub mark: Mark,
+    pub first: MainAnswer,
+    pub from: Cursor,
+    pub n: usize,
+    pub records: [FieldDef; 63],
+    pub context: Context,
+}
+
+// Behind an intra frame's kind byte stand its iteration and its time. Only last is given, never older.
+fn intra(d: Definition, s: &[u8], x: MainAnswer, h: History) -> Second {
+    let main = d.main;
+    let behind_iteration = behind(variable(s, behind_kind(x.at, s)), s);
+    Second {
+        mark: Mark::Intra,
+        first: x,
+        from: behind(variable(s, behind_iteration), s),
+        n: main.fields(),
+        records: records_of(main.intra_predictors, main.intra_encodings, main.signs),
+        context: context_of(d, h.last, MainFrame::absent()),
+    }
+}
+
+// Behind an inter frame's kind byte stands its time.
+fn inter(d: Definition, s: &[u8], x: MainAnswer, h: History) -> Second {
+    let main = d.main;
+    Second {
+        mark: Mark::Inter,
+        first: x,
+        from: behind(variable_signed(s, behind_kind(x.at, s)), s),
+        n: main.fields(),
+        records: records_of(main.inter_predictors, main.inter_encodings, main.signs),
+        context: context_of(d, h.last, h.older),
+    }
+}
+
 // Reads the fields at a place by their records, prints the frame, and pushes it.
-fn fields(
-    out: &mut impl Write,
-    letter: &[u8],
-    mark: Mark,
-    x: MainAnswer,
-    s: &[u8],
-    from: Cursor,
-    n: usize,
-    records: [FieldDef; 63],
-    context: Context,
-    h: History,
-) -> io::Result<History> {
-    let reading = records::read_records(s, from, n, records, context);
-    let fields = reading.fields;
-    let values = fields.values;
+fn read(out: &mut impl Write, s: &[u8], x: Second, h: History) -> io::Result<History> {
+    let reading = records::read_records(s, x.from, x.n, x.records, x.context);
+    let values = match reading {
+        Ok((fields, _)) => fields.values,
+        Err(_) => [0u32; 62],
+    };
     let frame = MainFrame {
-        mark,
-        iteration: x.iteration,
-        time: x.time,
+        mark: x.mark,
+        iteration: x.first.iteration,
+        time: x.first.time,
         values,
     };
     let after = history::push_through(h, frame);
-    show::frame(out, letter, x, n, records, reading)?;
+    show::frame(out, x, reading)?;
     show::history(out, after)?;
     Ok(after)
 }
 
-// Only last is given, never older.
-pub fn intra(
+// The history behind an answer: a main frame is read again and pushed.
+pub fn answer(
     out: &mut impl Write,
     d: Definition,
     s: &[u8],
-    x: MainAnswer,
+    answer: Answer,
     h: History,
 ) -> io::Result<History> {
-    let main = d.main;
-    let predictors = main.intra_predictors;
-    let encodings = main.intra_encodings;
-    let signs = main.signs;
-    let records = records_of(predictors, encodings, signs);
-    let context = context_of(d, h.last, MainFrame::absent());
-    let behind_iteration = behind(variable(s, behind_kind(x.at, s)), s);
-    let from = behind(variable(s, behind_iteration), s);
-    fields(
-        out,
-        b"I",
-        Mark::Intra,
-        x,
-        s,
-        from,
-        main.fields(),
-        records,
-        context,
-        h,
-    )
-}
-
-pub fn inter(
-    out: &mut impl Write,
-    d: Definition,
-    s: &[u8],
-    x: MainAnswer,
-    h: History,
-) -> io::Result<History> {
-    let main = d.main;
-    let predictors = main.inter_predictors;
-    let encodings = main.inter_encodings;
-    let signs = main.signs;
-    let records = records_of(predictors, encodings, signs);
-    let context = context_of(d, h.last, h.older);
-    let from = behind(variable_signed(s, behind_kind(x.at, s)), s);
-    fields(
-        out,
-        b"P",
-        Mark::Inter,
-        x,
-        s,
-        from,
-        main.fields(),
-        records,
-        context,
-        h,
-    )
+    match answer {
+        Answer::Intra(x) => read(out, s, intra(d, s, x, h), h),
+        Answer::Inter(x) => read(out, s, inter(d, s, x, h), h),
+        _ => Ok(h),
+    }
 }
 
 // 62 fields without bytes, encoding 9, are read wherever they are asked for; 63 are refused.
@@ -154,15 +137,12 @@ pub fn counts(out: &mut impl Write, d: Definition, s: &[u8]) -> io::Result<()> {
         encoding: 9,
         signed: false,
     };
-    let records = [none; 63];
     let context = context_of(d, MainFrame::absent(), MainFrame::absent());
     let start = Cursor { at: 0 };
-    let most = records::read_records(s, start, 62, records, context);
-    let more = records::read_records(s, start, 63, records, context);
-    let most_taken = most.taken;
-    let more_taken = more.taken;
-    show::text(out, b"62 fields ")?;
-    show::taken(out, most_taken)?;
-    show::text(out, b"63 fields ")?;
-    show::taken(out, more_taken)
+    for n in 62..64 {
+        write!(out, "{n} fields ")?;
+        let reading = records::read_records(s, start, n, [none; 63], context);
+        show::place(out, reading)?;
+    }
+    Ok(())
 }

@@ -75,10 +75,15 @@ fn ending(e: Ending) -> &'static str {
 
 // The last line, of a walk that has ended.
 pub fn end(out: &mut impl Write, t: Tally) -> io::Result<()> {
-    write!(out, "end {}", ending(t.ending))?;
-    write!(out, " main {} event {}", t.counts[0], t.counts[1])?;
-    write!(out, " slow {} tried {}", t.counts[2], t.trials)?;
-    writeln!(out, " rejected {}", t.counts[3])
+    let counts = t.counts;
+    let main = counts[0];
+    let event = counts[1];
+    let slow = counts[2];
+    let rejected = counts[3];
+    let ending = ending(t.ending);
+    let tried = t.trials;
+    write!(out, "end {ending} main {main} event {event}")?;
+    writeln!(out, " slow {slow} tried {tried} rejected {rejected}")
 }
 
 // Only refusal 3 has a round beside its place.
