@@ -86,7 +86,8 @@ part_take : (text : List ℕ) (n : ℕ) (s : Stretch) → s.start ≤ s.end → 
 unfolding part given
 part_take text n s h i j =
     let size : length (take n text) ≡ n = length-take-le n text j in
-    rw (le-leb s.start s.end h, le-leb s.end (length (take n text)) (omega arith), le-leb s.end (length text) (omega arith)) (bytes_take text n s.start s.end h i j)
+    rw (le-leb s.start s.end h, le-leb s.end (length (take n text)) (omega arith), le-leb s.end (length text) (omega arith))
+    (bytes_take text n s.start s.end h i j)
 
 pub part_alone : (text prefix : List ℕ) (s : Option Stretch) → value_of text prefix ≡ s → part (alone text) s ≡ part text s
 unfolding part

@@ -49,7 +49,8 @@ module _ (prefix : List ℕ) (p : ℕ) (l : List ℕ) (ls : List (List ℕ)) (s 
   here : (earlier : Option Stretch) → Kept prefix ls (newer prefix p l earlier) s → Lined prefix p (l ∷ ls) s ⊎ Kept prefix (l ∷ ls) earlier s
   unfolding newer total
   here earlier kept =
-      elim (begins prefix (bare l)) as (λ q. begins prefix (bare l) ≡ q → cond q (Some (record { start = p + length prefix; end = p + length (bare l) })) earlier ≡ Some s
+      elim (begins prefix (bare l)) as (λ q. begins prefix (bare l) ≡ q
+      → cond q (Some (record { start = p + length prefix; end = p + length (bare l) })) earlier ≡ Some s
       → Lined prefix p (l ∷ ls) s ⊎ Kept prefix (l ∷ ls) earlier s) [
         | true ↦ λ b here.
             let same : record { start = p + length prefix; end = p + length (bare l) } ≡ s = cc in

@@ -39,7 +39,8 @@ module _ (text : List ℕ) (at : ℕ) {b : Bool} (e : b ≡ starts_with eqb (tak
 -- ## The value of a line
 
 -- `b` says whether the line begins with the prefix
-module _ (text prefix : List ℕ) (line : Stretch) (earlier : Option Stretch) {b : Bool} (e : b ≡ starts_with eqb (take (line.end - line.start) (drop line.start text)) prefix)
+module _ (text prefix : List ℕ) (line : Stretch) (earlier : Option Stretch) {b : Bool}
+    (e : b ≡ starts_with eqb (take (line.end - line.start) (drop line.start text)) prefix)
     (f : line.end ≡ line.start + length (bare (drop line.start text))) where
   has_prefix : begins prefix (bare (drop line.start text)) ≡ b
   unfolding begins
@@ -74,7 +75,8 @@ found_first text prefix = record { within = omega arith; is = refl }
 
 -- the header lines from `at` on, by whether one starts there
 headers_here : (text : List ℕ) (at : ℕ) → at < length text
-    → headers (lines (drop at text)) ≡ cond (begins (ascii "H ") (bare (drop at text))) (first_line (drop at text) ∷ headers (lines (drop (at + length (first_line (drop at text))) text))) []
+    → headers (lines (drop at text)) ≡ cond (begins (ascii "H ") (bare (drop at text)))
+    (first_line (drop at text) ∷ headers (lines (drop (at + length (first_line (drop at text))) text))) []
 unfolding headers
 headers_here text at h = ap headers (lines_first (drop at text) (omega (arith, length-drop at text))) ∙ rw (bare_first, drop-drop)
 

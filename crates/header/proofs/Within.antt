@@ -49,10 +49,12 @@ within_more n m None le h = tt
 newer_within : (prefix : List ℕ) (p : ℕ) (l : List ℕ) (earlier : Option Stretch) → Within p earlier → Within (p + length l) (newer prefix p l earlier)
 unfolding newer
 newer_within prefix p l earlier h =
-    elim (begins prefix (bare l)) as (λ q. begins prefix (bare l) ≡ q → Within (p + length l) (cond q (Some (record { start = p + length prefix; end = p + length (bare l) })) earlier))
+    elim (begins prefix (bare l)) as (λ q. begins prefix (bare l) ≡ q
+    → Within (p + length l) (cond q (Some (record { start = p + length prefix; end = p + length (bare l) })) earlier))
     [ true ↦ λ e. omega (arith, begins_length prefix (bare l) e, bare_within l) | false ↦ λ e. within_more p (p + length l) earlier (omega arith) h ] refl
 
-last_within : (prefix : List ℕ) (p : ℕ) (ls : List (List ℕ)) (earlier : Option Stretch) → Within p earlier → Within (p + total ls) (last_from prefix p ls earlier)
+last_within : (prefix : List ℕ) (p : ℕ) (ls : List (List ℕ)) (earlier : Option Stretch) → Within p earlier
+    → Within (p + total ls) (last_from prefix p ls earlier)
 unfolding total last_from
 last_within prefix p [] earlier h = within_more p (p + 0) earlier (omega arith) h
 last_within prefix p (l ∷ ls) earlier h =

@@ -39,8 +39,8 @@ module _ (d : Definition) (which : Sort) (main slow : List ℕ) (k : ℕ) where
 
 -- ## The answers of the code
 
-pub name_here : (d : Definition) (which : Sort) (main slow : List ℕ) (k : ℕ) {n : ℕ} {l : List ℕ} {r : Option Stretch} → n ≡ item_count d which → l ≡ chosen which main slow
-    → r ≡ item_at l k → k < n → r ≡ name_at d which main slow k
+pub name_here : (d : Definition) (which : Sort) (main slow : List ℕ) (k : ℕ) {n : ℕ} {l : List ℕ} {r : Option Stretch}
+    → n ≡ item_count d which → l ≡ chosen which main slow → r ≡ item_at l k → k < n → r ≡ name_at d which main slow k
 name_here d which main slow k e f g h = g ∙ ap (λ t. item_at t k) f ∙ sym (stands d which main slow k (omega arith))
 
 pub no_name : (d : Definition) (which : Sort) (main slow : List ℕ) (k : ℕ) {n : ℕ} → n ≡ item_count d which → n ≤ k → None ≡ name_at d which main slow k

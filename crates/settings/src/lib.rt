@@ -51,6 +51,7 @@ fn number(s: &[u8], largest: usize) -> Option<usize>
     if n <= largest { Some(n) } else { None }
 }
 
+// This and `number32` are not one function for any size: a call, and a cast that each one's own bound proves, are no longer than a bound for the type.
 #[tactic(auto, using(crate::proofs::Texts::number_le), unfolding(crate::specs::Texts::header_number_of))]
 fn header_number(s: &[u8]) -> Option<u16>
     ensures { result ≡ header_number_of s.now }
