@@ -100,7 +100,8 @@ pub record Passed {R : Type 0} (whole : R) (a b : ℕ → ℕ → Bool) (done : 
 module _ {R : Type 0} {whole : R} {a b : ℕ → ℕ → Bool} {done : R} {stop : ℕ → R} {n : ℕ} {ps qs : List ℕ} {i : ℕ} (before : Passed whole a b done stop n ps qs i) where
   -- field i, and what lies behind it
   next : i < n → i < length ps → i < length qs
-      → whole ≡ cond (a i (get_or ps i 0) && b i (get_or qs i 0)) (judged a b done stop (i + 1) (drop (i + 1) (take n ps)) (drop (i + 1) (take n qs))) (stop i)
+      → whole
+      ≡ cond (a i (get_or ps i 0) && b i (get_or qs i 0)) (judged a b done stop (i + 1) (drop (i + 1) (take n ps)) (drop (i + 1) (take n qs))) (stop i)
   unfolding judged
   next h k l =
       before.is

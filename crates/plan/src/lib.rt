@@ -16,10 +16,12 @@ pub enum Sort {
 }
 
 // The main frames: the items of each list (0 where refused, 2 with no fields), and the fields behind loopIteration and time.
+// Stays arrays of bytes beside a count: no heap here, C's layout (crate store), and IsSoundOwes speaks of numbers that are no predictor or encoding.
 #[derive(Clone, Copy)]
 pub struct Main {
     pub n: usize,
     // The first field named motor[0], or the number of fields where there is none.
+    // Stays a number: AreSoundOwes takes any, and check 8 asks whether it lies before a field (edit motor_at_its_own_field).
     pub motor: usize,
     pub intra_predictors: [u8; 62],
     pub inter_predictors: [u8; 62],
@@ -47,6 +49,7 @@ pub struct Numbers {
 }
 
 // How often loop iterations are logged: every so many an intra frame, and of so many so many at all.
+// Stays numbers, with 0 for an intra interval that could not be read: C stores it so, and edit intra_interval_of_0 says a wrong thing of it.
 #[derive(Clone, Copy)]
 pub struct FrameInterval {
     pub intra: u32,
@@ -100,6 +103,7 @@ fn unmet<const N: usize>(
     None
 }
 
+#[tactic(auto, using(crate::proofs::Codes::predictor_is))]
 fn is_predictor(code: u8) -> bool
     ensures { result ≡ among predictors code }
 {
@@ -165,6 +169,7 @@ pub fn number_code(number: Option<u16>) -> u32
 }
 
 // And back: whatever needs more than 16 bits is absent.
+#[tactic(auto, using(crate::proofs::Codes::number_told))]
 pub fn number_of(code: u64) -> Option<u16>
     ensures { OfOwes code result }
 {
@@ -249,6 +254,7 @@ impl Settings {
 
 impl Definition {
     // A definition with no fields: what refused lists give.
+    #[tactic(auto, unfolding(crate::specs::Plan::nothing))]
     pub fn nothing() -> Definition
         ensures { NothingOwes result }
     {
