@@ -10,7 +10,7 @@ use denote.Struct.Declared as declared
 use lib.ListN.{length, drop, length-append}
 use lib.Seq.{sets}
 use Rattle.plan.specs.declared.Definition.{Definition}
-use Rattle.plan.specs.declared.HeaderNumber.{HeaderNumber}
+use Rattle.std.specs.Prelude.{Option}
 use Rattle.plan.specs.declared.Main.{Main}
 use Rattle.plan.specs.declared.Numbers.{Numbers}
 use Rattle.plan.specs.declared.Settings.{Settings}
@@ -50,7 +50,7 @@ module _ (l : List ℕ) where
   unfolding definition_at
   slow_at n a b c = λ i. record { n = n i; predictors = a i; encodings = b i; signs = c i }
 
-  pub numbers_at : {x y z : ℕ} {a b c : HeaderNumber} → x ≡ num64 (drop 32 l) → a ≡ number_of x → y ≡ num64 (drop 40 l) → b ≡ number_of y
+  pub numbers_at : {x y z : ℕ} {a b c : Option ℕ} → x ≡ num64 (drop 32 l) → a ≡ number_of x → y ≡ num64 (drop 40 l) → b ≡ number_of y
       → z ≡ num64 (drop 48 l) → c ≡ number_of z
       → ◌≡◌ {A = Numbers} (record { min_throttle = a; vbat_reference = b; min_motor = c }) (definition_at l).numbers
   unfolding definition_at

@@ -9,17 +9,15 @@ use borrow.Author.Tests.{le-leb, eq-eqb}
 use mir.Val.{Val}
 use denote.Laws.{Is}
 use denote.Struct.Declared as declared
-use denote.Enum.Declared as enum
 use lib.ListN.{length, take, drop, length-append}
 use lib.Seq.{sets-eq, drop_at, drop-drop, take_at}
 use Rattle.plan.specs.declared.Definition.{Definition}
-use Rattle.plan.specs.declared.HeaderNumber.{HeaderNumber}
-use Rattle.plan.specs.declared.HeaderNumber.TheVariants.{Absent, Given}
+use Rattle.std.specs.Prelude.{Option, Some, None}
 use Rattle.plan.specs.declared.Settings.{Settings}
 use Rattle.plan.specs.Plan.{number_code, number_of}
 use Rattle.plan.proofs.Codes.{NumberSized, number_code_small, number_of_code}
 use Rattle.plan.specs.contracts.Definition as definition
-use Rattle.plan.specs.contracts.HeaderNumber as header
+use Rattle.plan.specs.contracts.Numbers as numbers
 use Rattle.plan.specs.Sound.{sound}
 use Rattle.plan.proofs.Rooms.{MainRooms, main_rooms}
 use Rattle.plan.proofs.Sound.{interval_parts, sound_interval}
@@ -49,9 +47,20 @@ pub record DefinitionSized (d : Definition) : Type 0 where
 
 -- ## What owning a definition tells: `c.well_formed` has such a part for each parameter
 
-number_sized : (x : HeaderNumber) {vs : List Val} → Is (enum.row header.the_type) x vs → NumberSized x
-number_sized Absent g = tt
-number_sized (Given v) g = g.1.1.1.1.0.1
+abbrev Owned : (throttle battery least : Option ℕ) → List Val → Type 0
+Owned t b m vs = Is (declared.row numbers.the_type) (record { min_throttle = t; vbat_reference = b; min_motor = m }) vs
+
+throttle_sized : (t b m : Option ℕ) {vs : List Val} → Owned t b m vs → NumberSized t
+throttle_sized None b m g = tt
+throttle_sized (Some v) b m g = g.1.1.0.1.1.1.1.0.1
+
+battery_sized : (t b m : Option ℕ) {vs : List Val} → Owned t b m vs → NumberSized b
+battery_sized t None m g = tt
+battery_sized t (Some v) m g = g.1.1.1.0.1.1.1.1.0.1
+
+least_sized : (t b m : Option ℕ) {vs : List Val} → Owned t b m vs → NumberSized m
+least_sized t b None g = tt
+least_sized t b (Some v) g = g.1.1.1.1.0.1.1.1.1.0.1
 
 pub definition_sized : (d : Definition) {vs : List Val} → Is (declared.row definition.the_type) d vs → DefinitionSized d
 definition_sized d g =
@@ -61,16 +70,16 @@ definition_sized d g =
       slow_n = g.1.1.1.0.1.1.0.1;
       main_lists = main_rooms d.main g.1.1.0;
       slow_lists = slow_lists d.slow g.1.1.1.0;
-      throttle = number_sized d.numbers.min_throttle g.1.1.1.1.0.1.1.0;
-      battery = number_sized d.numbers.vbat_reference g.1.1.1.1.0.1.1.1.0;
-      least = number_sized d.numbers.min_motor g.1.1.1.1.0.1.1.1.1.0;
+      throttle = throttle_sized d.numbers.min_throttle d.numbers.vbat_reference d.numbers.min_motor g.1.1.1.1.0;
+      battery = battery_sized d.numbers.min_throttle d.numbers.vbat_reference d.numbers.min_motor g.1.1.1.1.0;
+      least = least_sized d.numbers.min_throttle d.numbers.vbat_reference d.numbers.min_motor g.1.1.1.1.0;
       settings = let v = g.1.1.1.1.1.0.1.1.0 in record { intra = v.1.1.0.1; numerator = v.1.1.1.0.1; denominator = v.1.1.1.1.0.1 };
     }
 
 -- ## Header numbers
 
 -- as it was written, whatever follows
-number_kept : (x : HeaderNumber) (rest : List ℕ) → NumberSized x → number_of (num64 (le64 (number_code x) ++ rest)) ≡ x
+number_kept : (x : Option ℕ) (rest : List ℕ) → NumberSized x → number_of (num64 (le64 (number_code x) ++ rest)) ≡ x
 number_kept x rest h = ap number_of (num_le64 (number_code x) rest (let q = number_code_small x h in omega arith)) ∙ number_of_code x h
 
 -- ## Settings

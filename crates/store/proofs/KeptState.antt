@@ -9,8 +9,8 @@ use lib.ListN.{length, get_or, drop, length-append}
 use lib.Seq.{sets, sets-eq, length-sets, drop_at, drop-drop}
 use borrow.Author.Tests.{le-leb}
 use Rattle.reader.specs.declared.Kind.TheVariants.{Event, Intra, Inter, Gps, Home, Slow}
-use Rattle.reader.specs.declared.Letter.{Letter}
-use Rattle.reader.specs.declared.Letter.TheVariants.{Is, Other}
+use Rattle.std.specs.Prelude.{Option, Some, None}
+use Rattle.reader.specs.declared.Kind.{Kind}
 use Rattle.reader.specs.Search.{letter_of}
 use Rattle.frame.specs.declared.MainFrame.{MainFrame}
 use Rattle.frame.specs.declared.Mark.{Mark}
@@ -22,7 +22,7 @@ use Rattle.section.specs.declared.Walk.{Walk}
 use Rattle.octets.specs.Bytes.{le32, le64, words, num32, num64, nums}
 use Rattle.octets.proofs.Round.{Bytes, Small, num_le, num_le64, nums_words, bytes_drop, num32_small, num64_small, nums_small, length_nums}
 use Rattle.sizes.specs.Sized.{Is32, Is64, Each, EndingSized, FrameSized, TallySized, WalkSized}
-use Rattle.store.specs.State.{mark_code, mark_of, is_mark, ending_code, cut_place, cut_by, ending_of, is_letter, is_ending}
+use Rattle.store.specs.State.{mark_code, mark_of, is_mark, ending_code, cut_place, cut_by, ending_of, is_ending}
 use Rattle.store.specs.State.{frame_bytes, frame_at, tally_bytes, tally_at, state_bytes, with_state, walk_at, is_state}
 use Rattle.store.proofs.States.{length_frame, length_tally, state_all}
 
@@ -59,7 +59,7 @@ ending_round (Cut Home p) = refl
 ending_round (Cut Slow p) = refl
 
 pub ending_is : (e : Ending) → is_ending (ending_code e) ≡ true
-unfolding is_ending ending_code is_letter letter_of
+unfolding is_ending ending_code letter_of
 ending_is Going = refl
 ending_is Done = refl
 ending_is Out = refl
@@ -231,10 +231,10 @@ choose_sized : (b : Bool) (x y : Ending) → EndingSized x → EndingSized y →
 choose_sized true x y h k = h
 choose_sized false x y h k = k
 
-cut_sized : (l : Letter) (p : ℕ) → Is64 p → EndingSized (cut_by l p)
+cut_sized : (l : Option Kind) (p : ℕ) → Is64 p → EndingSized (cut_by l p)
 unfolding cut_by
-cut_sized (Is k) p h = h
-cut_sized Other p h = tt
+cut_sized (Some k) p h = h
+cut_sized None p h = tt
 
 ending_sized : (c p : ℕ) → Is64 p → EndingSized (ending_of c p)
 unfolding ending_of

@@ -9,7 +9,6 @@ use native.Mathlib.Omega.{arith}
 use lib.ListN.{length, get_or, drop, length-append}
 use lib.Seq.{sets, length-sets, drop-drop}
 use borrow.Author.Tests.{eq-eqb, ne_eqb, le-leb, lt-leb}
-use Rattle.reader.specs.declared.Letter.TheVariants.{Other}
 use Rattle.reader.specs.Search.{letter_of}
 use Rattle.frame.specs.declared.MainFrame.{MainFrame}
 use Rattle.frame.specs.declared.Mark.{Mark}
@@ -23,7 +22,7 @@ use Rattle.store.specs.State.{frame_bytes, frame_at, tally_bytes, tally_at, stat
 
 -- ## Codes
 
-pub no_letter : (c : ℕ) → 256 ≤ c → Other ≡ letter_of c
+pub no_letter : (c : ℕ) → 256 ≤ c → None ≡ letter_of c
 unfolding letter_of
 no_letter c h =
     rw (

@@ -1,10 +1,10 @@
 -- A walk as 600 bytes (the layout is this project's own).
 -- Numbers of 64 bits, low byte first, at 0 the layout's version, 8 the place, 16 the ending, 24 the cut's place, 32, 40, 48 and 56 the counts of main,
 -- event and slow frames and of rejected trials, 64 the trials; the history's last frame at 72, the older one at 336.
-use Rattle.std.specs.Prelude.{ℕ, Bool, true, false, cond, Option, Some, None, ◌&&◌, ◌||◌, List, [], ◌∷◌, ◌++◌, eqb, leb, length, get_or, drop}
+use Rattle.std.specs.Prelude.{ℕ, Bool, cond, Option, Some, None, ◌&&◌, ◌||◌, List, [], ◌∷◌, ◌++◌, eqb, leb, length, get_or, drop}
+use Rattle.std.specs.Option.{is_some}
 use Rattle.std.proofs.lemmas.List.Edits.{sets}
-use Rattle.reader.specs.declared.Letter.{Letter}
-use Rattle.reader.specs.declared.Letter.TheVariants.{Is, Other}
+use Rattle.reader.specs.declared.Kind.{Kind}
 use Rattle.reader.specs.Search.{byte_of, letter_of}
 use Rattle.frame.specs.declared.MainFrame.{MainFrame}
 use Rattle.frame.specs.declared.Mark.{Mark}
@@ -48,19 +48,15 @@ cut_place Out = 0
 cut_place Done = 0
 cut_place (Cut k p) = p
 
-unfoldable pub cut_by : Letter → ℕ → Ending
-cut_by (Is k) p = Cut k p
-cut_by Other p = Going
+unfoldable pub cut_by : Option Kind → ℕ → Ending
+cut_by (Some k) p = Cut k p
+cut_by None p = Going
 
 unfoldable pub ending_of : (code place : ℕ) → Ending
 ending_of c p = cond (eqb c 1) Out (cond (eqb c 3) Done (cut_by (letter_of c) p))
 
-unfoldable pub is_letter : Letter → Bool
-is_letter (Is k) = true
-is_letter Other = false
-
 unfoldable pub is_ending : ℕ → Bool
-is_ending c = eqb c 0 || (eqb c 1 || (eqb c 3 || is_letter (letter_of c)))
+is_ending c = eqb c 0 || (eqb c 1 || (eqb c 3 || is_some (letter_of c)))
 
 -- ## What is written
 

@@ -5,7 +5,7 @@ ghost use Rattle.store.specs.Definition.{codes_at, definition_at, fitting, count
 ghost use Rattle.store.specs.Owes.{TakeDefinitionOwes, PutDefinitionOwes};
 
 use crate::{DEFINITION, DEFINITION_VERSION};
-use plan::{Definition, FrameInterval, HeaderNumber, Main, Numbers, Settings, Slow};
+use plan::{Definition, FrameInterval, Main, Numbers, Settings, Slow};
 
 // A list of codes, a byte each.
 fn codes_at<const N: usize>(buf: &[u8], at: usize) -> [u8; N]
@@ -52,9 +52,9 @@ fn take_numbers(buf: &[u8]) -> Numbers
     ensures { result ≡ (definition_at buf.now).numbers }
 {
     Numbers {
-        min_throttle: HeaderNumber::of(octets::take64(buf, 32)),
-        vbat_reference: HeaderNumber::of(octets::take64(buf, 40)),
-        min_motor: HeaderNumber::of(octets::take64(buf, 48)),
+        min_throttle: plan::number_of(octets::take64(buf, 32)),
+        vbat_reference: plan::number_of(octets::take64(buf, 40)),
+        min_motor: plan::number_of(octets::take64(buf, 48)),
     }
 }
 
@@ -109,9 +109,9 @@ fn put_counts(buf: &mut [u8], d: Definition)
             d.main.n as u64,
             d.main.motor as u64,
             d.slow.n as u64,
-            u64::from(d.numbers.min_throttle.code()),
-            u64::from(d.numbers.vbat_reference.code()),
-            u64::from(d.numbers.min_motor.code()),
+            u64::from(plan::number_code(d.numbers.min_throttle)),
+            u64::from(plan::number_code(d.numbers.vbat_reference)),
+            u64::from(plan::number_code(d.numbers.min_motor)),
         ],
     );
 }

@@ -11,7 +11,7 @@ ghost use Rattle.store.specs.State.{is_ending, frame_bytes, frame_at, tally_byte
 use crate::{STATE, STATE_VERSION};
 use frame::{MainFrame, Mark};
 use history::History;
-use reader::{Kind, Letter};
+use reader::Kind;
 use section::{Ending, Tally, Walk};
 
 // A frame's letter, or 0 for none.
@@ -39,14 +39,13 @@ fn mark_of(code: u32) -> Option<Mark>
 }
 
 #[tactic(auto, using(crate::proofs::States::no_letter))]
-fn letter_of(code: u64) -> Letter
+fn kind_of(code: u64) -> Option<Kind>
     ensures { result ≡ letter_of code }
 {
-    if code < 256 {
-        Letter::from_byte(code as u8)
-    } else {
-        Letter::Other
-    }
+    let Ok(byte) = u8::try_from(code) else {
+        return None;
+    };
+    Kind::from_byte(byte)
 }
 
 // The byte of a kind's letter.
@@ -86,7 +85,7 @@ fn cut_place(ending: Ending) -> usize
     }
 }
 
-#[tactic(auto, unfolding(crate::specs::State::ending_of, crate::specs::State::is_ending, crate::specs::State::cut_by, crate::specs::State::is_letter, reader::specs::Search::letter_of))]
+#[tactic(auto, unfolding(crate::specs::State::ending_of, crate::specs::State::is_ending, crate::specs::State::cut_by, reader::specs::Search::letter_of))]
 fn ending_of(code: u64, place: usize) -> Option<Ending>
     ensures { result ≡ then_some (is_ending code) (ending_of code place) }
 {
@@ -95,10 +94,8 @@ fn ending_of(code: u64, place: usize) -> Option<Ending>
         1 => Some(Ending::Out),
         3 => Some(Ending::Done),
         _ => {
-            match letter_of(code) {
-                Letter::Is(kind) => Some(Ending::Cut(kind, place)),
-                Letter::Other => None,
-            }
+            let kind = kind_of(code)?;
+            Some(Ending::Cut(kind, place))
         }
     }
 }
