@@ -7,15 +7,13 @@ use crate::variable::variable;
 use reader::{Cursor, Fault};
 
 // The low 14 bits as a signed number, negated.
+#[tactic(auto, using(crate::proofs::Minus::minus_low, crate::proofs::Minus::minus_high))]
 fn minus_low_14(n: u32) -> u32
     ensures { result ≡ pattern (neg_ℤ (signed 14 (n % 2 ^ 14))) }
 {
     let v = n % 16384;
-    if v == 0 {
-        return 0;
-    }
     if v < 8192 {
-        4294967295 - v + 1
+        v.wrapping_neg()
     } else {
         16384 - v
     }

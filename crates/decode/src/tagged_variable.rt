@@ -11,6 +11,7 @@ use crate::variable::variable_signed;
 use reader::{Cursor, Fault, Group};
 
 // A field, by its bit in the head: a number where it is set; where it is clear 0, and no byte.
+#[tactic(auto, using(crate::proofs::Marked::unmarked, crate::proofs::Marked::is_marked))]
 fn marked_field(s: &[u8], from: Cursor, bit: u8) -> Result<(u32, Cursor), Fault>
     ensures { result ≡ read_at from (over pattern (marked bit (rest from s.now))) }
 {
@@ -40,6 +41,7 @@ fn marked_fields(s: &[u8], from: Cursor, n: usize, head: u8) -> Result<Group, Fa
     })
 }
 
+#[tactic(auto, using(crate::proofs::Headed::power))]
 fn limit(n: usize) -> u32
     requires { n ≤ 8 }
     ensures { result ≡ 2 ^ n }
@@ -69,6 +71,7 @@ fn lone_field(s: &[u8], from: Cursor) -> Result<Group, Fault>
 }
 
 // No group has none or more than eight: it is corrupt, and no byte is read.
+#[tactic(auto, using(crate::proofs::Headed::size_none, crate::proofs::Headed::size_one, crate::proofs::Headed::size_more, crate::proofs::Headed::size_beyond))]
 fn sized_group(s: &[u8], from: Cursor, n: usize) -> Result<Group, Fault>
     ensures { whole result ≡ group_at from (over (map pattern) (encoding6 n (rest from s.now))) }
 {

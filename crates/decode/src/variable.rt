@@ -58,13 +58,14 @@ pub fn variable(s: &[u8], from: Cursor) -> Result<(u32, Cursor), Fault>
 }
 
 // 2k is k and 2k + 1 is -k-1.
+#[tactic(auto, unfolding(crate::specs::Variable::zigzag, bits::specs::Pattern::pattern, bits::specs::Pattern::wrap))]
 fn zig_zag_decode(n: u32) -> u32
     ensures { result ≡ pattern (zigzag n) }
 {
     if n % 2 == 0 {
         n / 2
     } else {
-        4294967295 - n / 2
+        !(n / 2)
     }
 }
 

@@ -63,6 +63,7 @@ fn spelt(text: &[u8], s: &[u8], from: Cursor, event: Event) -> Result<(Event, Cu
     Ok((event, at))
 }
 
+#[tactic(auto, unfolding(crate::specs::Events::closing, crate::specs::Events::spelled))]
 fn close(s: &[u8], from: Cursor) -> Result<(Event, Cursor), Fault>
     ensures { result ≡ read_at from (closing (rest from s.now)) }
 {

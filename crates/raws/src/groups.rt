@@ -17,6 +17,7 @@ use reader::{Cursor, Fault, Group};
 use tagged::tagged_16::tagged_16;
 use tagged::tagged_32::tagged_32;
 
+#[tactic(auto, unfolding(crate::specs::Groups::size))]
 fn max_chunk_size(encoding: u8) -> usize
     ensures { result ≡ size encoding }
 {
@@ -48,6 +49,7 @@ fn chunk(encodings: &[u8], i: usize) -> usize
 }
 
 // A number by itself. What is no encoding is corrupt.
+#[tactic(auto, using(crate::proofs::Encodings::of_0, crate::proofs::Encodings::of_1, crate::proofs::Encodings::of_3, crate::proofs::Encodings::of_none))]
 fn number(encoding: u8, s: &[u8], from: Cursor) -> Result<(u32, Cursor), Fault>
     ensures { result ≡ read_at from (single encoding (rest from s.now)) }
 {
@@ -61,6 +63,7 @@ fn number(encoding: u8, s: &[u8], from: Cursor) -> Result<(u32, Cursor), Fault>
 }
 
 // All numbers that a group of n fields reads.
+#[tactic(auto, using(crate::proofs::Encodings::of_6, crate::proofs::Encodings::of_7, crate::proofs::Encodings::of_8, crate::proofs::Encodings::is_8))]
 fn group(encoding: u8, n: usize, s: &[u8], from: Cursor) -> Group
     requires { 1 < size encoding }
     ensures { result ≡ group_at from (Groups.group encoding n (rest from s.now)) }

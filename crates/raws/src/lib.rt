@@ -65,6 +65,7 @@ fn joined(front: Result<Front, Fault>, fields: [u32; 62]) -> Result<(Raw, Cursor
 }
 
 // The first n fields of as many as a frame can have, behind the numbers before them.
+#[tactic(auto, using(crate::proofs::Frames::all_rooms))]
 fn fields_into(
     n: usize,
     encodings: &[u8],
@@ -110,6 +111,7 @@ fn inter_front(
 }
 
 // No number stands before the fields of a slow frame; without slow lists it is corrupt at once.
+#[tactic(auto, using(crate::proofs::Frames::slow_none, crate::proofs::Frames::slow_is))]
 fn slow_front(
     n: usize,
     encodings: &[u8; 16],
@@ -168,6 +170,7 @@ pub fn slow_into(
 }
 
 // The fields alone, as a value.
+#[tactic(auto, using(crate::proofs::Frames::value_is))]
 pub fn main_fields(
     n: usize,
     encodings: [u8; 62],
@@ -184,6 +187,7 @@ pub fn main_fields(
 }
 
 // The frames of a definition, as values.
+#[tactic(auto, using(crate::proofs::Frames::value_is, crate::proofs::Frames::counted), unfolding(plan::specs::Plan::shape))]
 pub fn intra(d: Definition, s: &[u8], from: Cursor) -> Result<(Raw, Cursor), Fault>
     ensures { IntraOwes d s.now from result }
 {
@@ -194,6 +198,7 @@ pub fn intra(d: Definition, s: &[u8], from: Cursor) -> Result<(Raw, Cursor), Fau
     joined(front, fields)
 }
 
+#[tactic(auto, using(crate::proofs::Frames::value_is, crate::proofs::Frames::counted), unfolding(plan::specs::Plan::shape))]
 pub fn inter(d: Definition, s: &[u8], from: Cursor) -> Result<(Raw, Cursor), Fault>
     ensures { InterOwes d s.now from result }
 {
@@ -204,6 +209,7 @@ pub fn inter(d: Definition, s: &[u8], from: Cursor) -> Result<(Raw, Cursor), Fau
     joined(front, fields)
 }
 
+#[tactic(auto, using(crate::proofs::Frames::value_is), unfolding(plan::specs::Plan::shape))]
 pub fn slow(d: Definition, s: &[u8], from: Cursor) -> Result<(Raw, Cursor), Fault>
     ensures { SlowOwes d s.now from result }
 {

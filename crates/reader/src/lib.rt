@@ -71,6 +71,7 @@ impl Group {
 }
 
 // The byte at a place, and the place behind it; or nothing at the end.
+#[tactic(auto, using(crate::proofs::Bytes::byte_here, crate::proofs::Bytes::byte_end))]
 pub fn read_u8(s: &[u8], from: Cursor) -> Option<(u8, Cursor)>
     ensures { ReadU8Owes s.now from result }
 {
@@ -84,6 +85,7 @@ pub fn read_u8(s: &[u8], from: Cursor) -> Option<(u8, Cursor)>
 
 impl Kind {
     // The kind whose letter a byte is, where a frame may begin.
+    #[tactic(auto, unfolding(crate::specs::Search::letter_of))]
     pub fn from_byte(b: u8) -> Option<Kind>
         ensures { FromByteOwes b result }
     {
@@ -100,6 +102,7 @@ impl Kind {
 }
 
 // Whether a search stops at a byte: P is not searched for.
+#[tactic(auto, unfolding(crate::specs::Search::letter_of, crate::specs::Search::searched))]
 fn stops(b: u8) -> bool
     ensures { result ≡ searched (letter_of b) }
 {

@@ -7,4 +7,3 @@ pub mod Meaning
 pub mod Numbers7
 pub mod Numbers8
 pub mod One
-pub mod Patterns

@@ -29,6 +29,7 @@ trait SizedByHead {
 }
 
 // A group of such an encoding: one test tells whether the section holds it.
+#[tactic(auto, using(crate::proofs::Ends::end, crate::proofs::Ends::short, crate::proofs::Ends::whole))]
 fn sized_by_head<E: SizedByHead>(s: &[u8], from: Cursor) -> Group
     ensures { result ≡ group_at from (over (map pattern) (by_head E.size E.values (rest from s.now))) }
 {
@@ -48,9 +49,10 @@ fn sized_by_head<E: SizedByHead>(s: &[u8], from: Cursor) -> Group
 }
 
 // A number below an even k, as a signed one: its upper half is negative.
+#[tactic(auto, unfolding(bits::specs::Pattern::lowered, bits::specs::Pattern::pattern, bits::specs::Pattern::wrap))]
 fn sign_extend(k: u32, v: u32) -> u32
     requires { (v < k) × (k % 2 ≡ 0) }
     ensures { result ≡ pattern (lowered k v) }
 {
-    if v < k / 2 { v } else { 4294967295 - k + 1 + v }
+    if v < k / 2 { v } else { v.wrapping_sub(k) }
 }

@@ -9,6 +9,7 @@ use crate::{SizedByHead, sign_extend, sized_by_head};
 use reader::{Cursor, Group};
 
 // Half byte k behind the head at `at`.
+#[tactic(auto, using(crate::proofs::Numbers8::half_even, crate::proofs::Numbers8::half_odd))]
 fn half(s: &[u8], at: usize, k: usize) -> u32
     requires { at + (1 + k / 2) < length s.now }
     ensures { (result ≡ get_or (halves_behind at s.now) k 0) × (result < 16) }
@@ -18,6 +19,7 @@ fn half(s: &[u8], at: usize, k: usize) -> u32
 }
 
 // The half bytes of a code.
+#[tactic(auto, unfolding(crate::specs::Tagged16::width))]
 fn width(code: u8) -> usize
     requires { code < 4 }
     ensures { (result ≡ Tagged16.width code) × (result ≤ 4) }
@@ -56,6 +58,7 @@ impl SizedByHead for Encoding8 {
 
     ghost values = { values8 };
 
+    #[tactic(auto, using(crate::proofs::Numbers8::size8_is))]
     fn size_of(head: u8) -> usize {
         1 + (width(head % 4) + width(head / 4 % 4) + width(head / 16 % 4) + width(head / 64) + 1)
             / 2

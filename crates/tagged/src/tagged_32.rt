@@ -37,6 +37,7 @@ impl SizedByHead for Encoding7 {
 
     ghost values = { values7 };
 
+    #[tactic(auto, unfolding(crate::specs::Sized::size7))]
     fn size_of(head: u8) -> usize {
         let k = head / 64;
         match k {
