@@ -14,12 +14,14 @@ pub fn main(is_inter: bool, words: &[u8]) -> Option<(Definition, &[u8])> {
     d.settings = Settings::plain();
     d.main.n = fields.n + 2;
     d.main.motor = parse::motor(motor, fields.n)?;
+    let encodings = fields.encodings;
+    let predictors = fields.predictors;
     if is_inter {
-        d.main.inter_encodings = fields.encodings;
-        d.main.inter_predictors = fields.predictors;
+        d.main.inter_encodings = encodings;
+        d.main.inter_predictors = predictors;
     } else {
-        d.main.intra_encodings = fields.encodings;
-        d.main.intra_predictors = fields.predictors;
+        d.main.intra_encodings = encodings;
+        d.main.intra_predictors = predictors;
     }
     Some((d, three::behind_three(rest)))
 }

@@ -65,10 +65,13 @@ fn fields_up_to(encodings: &[u8], top: u8, predictors: &[u8], top_predictor: u8)
     if encodings.n != predictors.n {
         return None;
     }
+    let n = encodings.n;
+    let encodings = encodings.codes;
+    let predictors = predictors.codes;
     Some(Fields {
-        n: encodings.n,
-        encodings: encodings.codes,
-        predictors: predictors.codes,
+        n,
+        encodings,
+        predictors,
     })
 }
 

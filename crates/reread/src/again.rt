@@ -71,34 +71,41 @@ pub struct Second {
 
 // Behind an intra frame's kind byte stand its iteration and its time. Only last is given, never older.
 fn intra(d: Definition, s: &[u8], x: MainAnswer, h: History) -> Second {
-    let main = d.main;
+    let predictors = d.main.intra_predictors;
+    let encodings = d.main.intra_encodings;
+    let signs = d.main.signs;
+    let records = records_of(predictors, encodings, signs);
     let behind_iteration = behind(variable(s, behind_kind(x.at, s)), s);
     Second {
         mark: Mark::Intra,
         first: x,
         from: behind(variable(s, behind_iteration), s),
-        n: main.fields(),
-        records: records_of(main.intra_predictors, main.intra_encodings, main.signs),
+        n: d.main.fields(),
+        records,
         context: context_of(d, h.last, MainFrame::absent()),
     }
 }
 
 // Behind an inter frame's kind byte stands its time.
 fn inter(d: Definition, s: &[u8], x: MainAnswer, h: History) -> Second {
-    let main = d.main;
+    let predictors = d.main.inter_predictors;
+    let encodings = d.main.inter_encodings;
+    let signs = d.main.signs;
+    let records = records_of(predictors, encodings, signs);
     Second {
         mark: Mark::Inter,
         first: x,
         from: behind(variable_signed(s, behind_kind(x.at, s)), s),
-        n: main.fields(),
-        records: records_of(main.inter_predictors, main.inter_encodings, main.signs),
+        n: d.main.fields(),
+        records,
         context: context_of(d, h.last, h.older),
     }
 }
 
 // Reads the fields at a place by their records, prints the frame, and pushes it.
 fn read(out: &mut impl Write, s: &[u8], x: Second, h: History) -> io::Result<History> {
-    let reading = records::read_records(s, x.from, x.n, x.records, x.context);
+    let records = x.records;
+    let reading = records::read_records(s, x.from, x.n, records, x.context);
     let values = match reading {
         Ok((fields, _)) => fields.values,
         Err(_) => [0u32; 62],

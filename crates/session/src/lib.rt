@@ -4,6 +4,7 @@
 
 ghost use Rattle.std.specs.Prelude.{true, ◌≡◌, ◌≤◌, length};
 ghost use Rattle.plan.specs.Sound.{sound};
+ghost use Rattle.session.specs.Owes.{EachAnswerOwes};
 
 use header::Header;
 use plan::{Definition, Numbers, Settings};
@@ -26,6 +27,7 @@ pub fn each_answer<F: FnMut(Answer, &[u32; 62]) -> io::Result<()>>(
 ) -> io::Result<Tally>
     requires sound { sound d ≡ true }
     requires callable { F.IsAlwaysCallable each }
+    ensures { EachAnswerOwes d s.now result }
 {
     let mut walk = Walk::start();
     let mut barren = false;
@@ -33,12 +35,13 @@ pub fn each_answer<F: FnMut(Answer, &[u32; 62]) -> io::Result<()>>(
     loop {
         let called = calls::step(d, walk, s, barren, &mut values);
         let answer = called.looked.answer;
-        walk = called.looked.walk;
-        barren = called.barren;
+        let next = called.looked.walk;
         if answer.is_over() {
-            return Ok(walk.tally);
+            return Ok(next.tally);
         }
         each(answer, &values)?;
+        walk = next;
+        barren = called.barren;
     }
 }
 
