@@ -65,7 +65,7 @@ unfolding encodings_open predictors_open groups.size groups.runs_behind groups.r
     raws.raw raws.timed raws.intra_raw raws.inter_raw raws.slow_raw
     frames.intra_fields frames.inter_fields frames.slow_fields frames.intra_frame
     frames.inter_frame frames.slow_values frames.intra_read frames.inter_read frames.slow_read
-    past.mapped past.body_of past.no_frame time.skipped_after time.iteration_after time.top time.held time.behind_inter time.time_after
+    past.body_of past.no_frame time.skipped_after time.iteration_after time.top time.held time.behind_inter time.time_after
     values.nth values.prediction_at values.values_behind values.values_of
 frames_open = tt
 
@@ -75,9 +75,9 @@ unfolding plan.core plan.shape plan.rules plan.nothing sound.met sound.unmet_fro
     header.header_of header.lists_of header.value_of header.last_from header.newer lines.lines lines.bare lines.begins lines.headers lines.total
     items.items items.absent items.given items.part said.number_among said.predictor_of said.encoding_of
     said.blank said.trim_start said.trim_end said.unsigned said.sign_code table same
-    checks.check checks.◌or_else◌ checks.unknown_in checks.unknown_from
+    checks.◌or_else◌ checks.unknown_in checks.unknown_from
     defined.main_items defined.slow_items defined.main_absent defined.slow_absent defined.no_slow_lists defined.main_finding defined.slow_finding defined.judged
-    defined.slow_fields defined.fields_of defined.in_interval defined.definition_of defined.defined
+    defined.fields_of defined.in_interval defined.definition_of defined.defined
     mainLists.rounds mainLists.said mainLists.is_field mainLists.in_rounds mainLists.reached mainLists.wrong mainLists.lengths mainLists.in_lengths
     mainLists.fields_from mainLists.motor_from mainLists.main_of mainLists.in_needs mainLists.judged_main
     slowLists.slow_rounds slowLists.slow_said slowLists.equal_counts slowLists.slow_of slowLists.judged_four slowLists.judged_slow
@@ -85,9 +85,9 @@ lists_open = tt
 
 -- the walk
 unfoldable pub walk_open : Unit {0}
-unfolding lists_open frames_open search.letter_of search.searched search.ahead search.skip_of search.seek history.empty history.pushed history.past
+unfolding lists_open frames_open search.letter_of search.searched search.ahead history.empty history.pushed history.past
     events.one_number events.with_second events.two_numbers events.exactly events.spelled events.closing events.of_type events.event_read
-    extent.trial extent.is_kind extent.closed extent.judged extent.begun extent.look
+    extent.trial extent.closed extent.judged extent.begun extent.look
     tally.place_after tally.ended_by tally.ending_after tally.part_of tally.one_more
     tally.counts_after tally.trials_after tally.tally_after answers.paper_of answers.is_over
     section.start section.history_with section.answer_with section.fields_with section.history_after

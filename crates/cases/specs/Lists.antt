@@ -1,10 +1,8 @@
 -- Logs whose lists the rules accept or refuse (document 01, "Definition lists" and "Sessions to reproduce"), from their header lines on.
-use Rattle.std.specs.Prelude.{ℕ, zero, suc, true, List, [], ◌∷◌, ◌≡◌}
+use Rattle.std.specs.Prelude.{ℕ, zero, suc, true, List, [], ◌∷◌, ◌≡◌, Some, None}
 use Prim.Native.String.{String, ◌++◌}
-use Rattle.std.proofs.Math.Option.{none, some}
 use Rattle.header.specs.Header.{header_of}
 use Rattle.items.specs.Text.{ascii}
-use Rattle.plan.specs.declared.HeaderNumber.TheVariants.{Given}
 use Rattle.plan.specs.declared.Numbers.{Numbers}
 use Rattle.plan.specs.declared.Settings.{Settings}
 use Rattle.plan.specs.Plan.{Core, core, no_numbers, plain}
@@ -32,10 +30,10 @@ abbrev judged : Finding → String → ListCase
 judged finding log = record { log = log; numbers = no_numbers; settings = plain; finding = finding }
 
 abbrev passes : String → ListCase
-passes = judged none
+passes = judged None
 
 abbrev refused : (number place : ℕ) → String → ListCase
-refused number place = judged (some (refusal number place 0))
+refused number place = judged (Some (refusal number place 0))
 
 -- with an interval
 abbrev chosen : Finding → (intra numerator denominator : ℕ) → String → ListCase
@@ -44,7 +42,7 @@ chosen finding i n d log =
 
 -- refusal 3 has a list and a round
 abbrev unknown : (list round : ℕ) → String → ListCase
-unknown list round = judged (some (refusal 3 list round))
+unknown list round = judged (Some (refusal 3 list round))
 
 -- the lists of section A; four items with other predictors; slow lists behind those of section A
 abbrev pub lists_a : String
@@ -89,11 +87,11 @@ list_cases =
     -- the same with its number; another interval
     ∷ (record {
       log = with_predictors "0,0,0,0" "6,2,0,4";
-      numbers = record { min_throttle = Given 1150; vbat_reference = no_numbers.vbat_reference; min_motor = no_numbers.min_motor };
+      numbers = record { min_throttle = Some 1150; vbat_reference = no_numbers.vbat_reference; min_motor = no_numbers.min_motor };
       settings = plain;
-      finding = none;
+      finding = None;
     })
-    ∷ chosen (some (refusal 9 0 0)) 1 1 2 lists_a
+    ∷ chosen (Some (refusal 9 0 0)) 1 1 2 lists_a
     -- 64 rounds pass, 65 give 2
     ∷ passes (with_fields 62)
     ∷ refused 2 65 (with_fields 63)
@@ -107,11 +105,11 @@ list_cases =
     ∷ refused 4 0 (lists_a ++ "H Field I name:\n")
     ∷ passes (lists_a ++ "H Field P name:a,b\n")
     -- an intra interval of 32, and of 0; 2/2, and 0/0; 9 comes behind 8
-    ∷ chosen none 32 1 1 lists_a
-    ∷ chosen (some (refusal 9 0 0)) 0 1 1 lists_a
-    ∷ chosen (some (refusal 9 0 0)) 1 2 2 lists_a
-    ∷ chosen (some (refusal 9 0 0)) 1 0 0 lists_a
-    ∷ chosen (some (refusal 8 3 0)) 1 1 2 (with_predictors "0,0,0,0" "6,2,0,4")
+    ∷ chosen None 32 1 1 lists_a
+    ∷ chosen (Some (refusal 9 0 0)) 0 1 1 lists_a
+    ∷ chosen (Some (refusal 9 0 0)) 1 2 2 lists_a
+    ∷ chosen (Some (refusal 9 0 0)) 1 0 0 lists_a
+    ∷ chosen (Some (refusal 8 3 0)) 1 1 2 (with_predictors "0,0,0,0" "6,2,0,4")
     ∷ []
 
 abbrev pub Judged : ListCase → Type 0
@@ -123,7 +121,7 @@ core_a =
     record {
       items = 3;
       slow_items = 0;
-      shape = record { intra = 0 ∷ []; inter = 0 ∷ []; slow = none };
+      shape = record { intra = 0 ∷ []; inter = 0 ∷ []; slow = None };
       rules = record { intra = 8 ∷ []; inter = 1 ∷ []; slow = []; motor = 0; numbers = no_numbers; interval = plain.interval };
       unsigned = true ∷ [];
       slow_unsigned = [];

@@ -1,6 +1,5 @@
 -- The cases that document 01 marks with a star under "Sessions to reproduce", as one list under one statement: the walk, predictors and encodings.
-use Rattle.std.specs.Prelude.{ℕ, Bool, true, false, List, [], ◌∷◌, ◌++◌, ◌≡◌, ℤ, pos, neg_ℤ, length}
-use Rattle.std.proofs.Math.Option.{some}
+use Rattle.std.specs.Prelude.{ℕ, Bool, true, false, List, [], ◌∷◌, ◌++◌, ◌≡◌, ℤ, pos, neg_ℤ, length, Some}
 use Rattle.bits.specs.Pattern.{pattern}
 use Rattle.items.specs.Text.{ascii}
 use Rattle.reader.specs.declared.Kind.TheVariants.{Intra}
@@ -59,7 +58,7 @@ starred =
 abbrev pub Says : Case → Type 0
 Says (walk section lines tally) = session (ascii lists_a ++ section) ≡ record { lines = lines; tally = tally }
 Says (predictor p sign last older value) =
-    (around : Surroundings) (motor : ℕ) → prediction sign around (some (pattern last)) (some (pattern older)) motor p ≡ pattern value
+    (around : Surroundings) (motor : ℕ) → prediction sign around (Some (pattern last)) (Some (pattern older)) motor p ≡ pattern value
 Says (group reader section values) = reader section ≡ got values (record { bytes = length section })
 
 abbrev pub Hold : List Case → Type 0

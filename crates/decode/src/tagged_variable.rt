@@ -1,5 +1,5 @@
 // Encoding 6: a head whose bits mark the numbers that follow, as many as it has ones.
-ghost use Rattle.std.specs.Prelude.{map, ◌≡◌, ◌≤◌, ◌^◌};
+ghost use Rattle.std.specs.Prelude.{map, ◌≡◌, ◌<◌, ◌≤◌, ◌^◌};
 ghost use Rattle.bits.specs.Pattern.{pattern};
 ghost use Rattle.reader.specs.Got.{over};
 ghost use Rattle.reader.specs.Place.{rest, read_at, group_at};
@@ -21,19 +21,24 @@ fn marked_field(s: &[u8], from: Cursor, bit: u8) -> Result<(u32, Cursor), Fault>
     variable_signed(s, from)
 }
 
-// The fields behind a head. As many numbers are read as it has ones among the n.
+// The fields behind a head. The count of its ones gives the numbers read, as document 01 has it, and so ends the loop: no `for` over the fields.
 fn marked_fields(s: &[u8], from: Cursor, n: usize, head: u8) -> Result<Group, Fault>
-    requires { n ≤ 8 }
+    requires { (n ≤ 8) × (head < 2 ^ n) }
     ensures { whole result ≡ group_at from (over (map pattern) (fields n head (rest from s.now))) }
 {
     let mut values = [0u32; 8];
     let mut next = from;
     let mut bits = head;
-    for i in 0..n {
-        let (v, behind) = marked_field(s, next, bits % 2)?;
+    let mut left = head.count_ones();
+    let mut i = 0;
+    while 0 < left {
+        let bit = bits % 2;
+        let (v, behind) = marked_field(s, next, bit)?;
         values[i] = v;
         next = behind;
+        left -= u32::from(bit);
         bits /= 2;
+        i += 1;
     }
     Ok(Group {
         step: Ok(next),

@@ -62,11 +62,7 @@ pub fn variable(s: &[u8], from: Cursor) -> Result<(u32, Cursor), Fault>
 fn zig_zag_decode(n: u32) -> u32
     ensures { result ≡ pattern (zigzag n) }
 {
-    if n % 2 == 0 {
-        n / 2
-    } else {
-        !(n / 2)
-    }
+    if n % 2 == 0 { n / 2 } else { !(n / 2) }
 }
 
 // Encoding 0.

@@ -2,43 +2,50 @@
 use Prim.Native.Nat.{ℕ, suc, ◌+◌, ◌-◌, ◌<◌, ◌≤◌}
 use mathlib.Core.Bool.{Bool, true, false, cond}
 use mathlib.Core.List.{List, [], ◌∷◌}
-use mathlib.Core.Path.{◌≡◌}
+use mathlib.Core.Path.{◌≡◌, refl}
 use native.Mathlib.Omega.{arith}
 use lib.ListN.{length, drop, get_or, drop_of_length-le, length-drop}
 use lib.Seq.{drop-cons}
+use Rattle.std.specs.Prelude.{Option, Some, None, unwrap_or}
 use Rattle.plan.specs.Plan.{Shape}
 use Rattle.reader.specs.declared.Kind.{Kind}
-use Rattle.reader.specs.declared.Letter.{Letter}
-use Rattle.reader.specs.declared.Letter.TheVariants.{Is, Other}
 use Rattle.reader.specs.Got.{Got, got, cut, corrupt}
-use Rattle.reader.specs.Search.{letter_of, seek}
-use Rattle.reader.proofs.Found.{seek_within}
+use Rattle.reader.specs.Search.{letter_of, ahead}
+use Rattle.reader.proofs.Found.{found_inside}
 use Rattle.reader.proofs.Lawful.{Within}
 use Rattle.extent.specs.declared.Seen.{Seen}
 use Rattle.extent.specs.declared.Seen.TheVariants.{Nothing, Rejected, Accepted}
 use Rattle.extent.specs.Extent.{Content, closed, bare, trial, judged, begun, look, span}
 use Rattle.extent.proofs.Lawful.{trial_lawful}
 
+-- a search goes no further than the bytes
+found_within : (c : List ℕ) → unwrap_or (ahead c) 0 ≤ length c
+found_within c = by (ahead c) refl
+  where
+    by : (o : Option ℕ) → ahead c ≡ o → unwrap_or o 0 ≤ length c
+    by None e = omega arith
+    by (Some n) e = omega (arith, found_inside c e)
+
 -- over a first byte at least, and over no more than n behind it
 abbrev Reaches : ℕ → Seen → Type 0
 Reaches n x = (1 ≤ span x) × (span x ≤ 1 + n)
 
 closed_reaches : (t : Bool) (k : Kind) (c : List ℕ) (x : Content) (n : ℕ) → n ≤ length c
-    → Reaches (length c) (cond t (record { seen = Accepted x.frame n; raw = x.raw }) (bare (Rejected k (seek c)))).seen
+    → Reaches (length c) (cond t (record { seen = Accepted x.frame n; raw = x.raw }) (bare (Rejected k (ahead c)))).seen
 unfolding span
 closed_reaches true k c x n le = omega arith
-closed_reaches false k c x n le = omega (arith, seek_within c)
+closed_reaches false k c x n le = omega (arith, found_within c)
 
 judged_reaches : (k : Kind) (c : List ℕ) (g : Got Content) → Within 0 c g → Reaches (length c) (judged k c g).seen
 unfolding judged span
 judged_reaches k c (got x u) w = closed_reaches (closed (drop u.bytes c)) k c x u.bytes w.1
 judged_reaches k c cut w = omega arith
-judged_reaches k c corrupt w = omega (arith, seek_within c)
+judged_reaches k c corrupt w = omega (arith, found_within c)
 
-begun_reaches : (h : Shape) (c : List ℕ) (l : Letter) → Reaches (length c) (begun h l c).seen
+begun_reaches : (h : Shape) (c : List ℕ) (l : Option Kind) → Reaches (length c) (begun h l c).seen
 unfolding begun span
-begun_reaches h c (Is k) = judged_reaches k c (trial h k c) ((trial_lawful h k).within c)
-begun_reaches h c Other = omega (arith, seek_within c)
+begun_reaches h c (Some k) = judged_reaches k c (trial h k c) ((trial_lawful h k).within c)
+begun_reaches h c None = omega (arith, found_within c)
 
 -- from the first of some bytes on
 look_within : (h : Shape) (c : List ℕ) → span (look h c).seen ≤ length c

@@ -2,31 +2,30 @@
 use Prim.Native.Nat.{ℕ, ◌+◌, ◌-◌, ◌≤◌}
 use mathlib.Core.Bool.{Bool, true, false, cond}
 use mathlib.Core.List.{List}
-use mathlib.Core.Path.{◌≡◌, refl, sym, ap, subst, ◌∙◌}
+use mathlib.Core.Logic.{◌⊎◌, ⊎_elim}
+use mathlib.Core.Path.{◌≡◌, sym, ap, ◌∙◌}
 use native.Mathlib.Omega.{arith}
 use lib.ListN.{take, drop}
 use lib.Seq.{drop-drop}
+use Rattle.std.specs.Prelude.{Option, Result, Ok, Err}
 use Rattle.plan.specs.declared.Definition.{Definition}
 use Rattle.plan.specs.Plan.{Shape, fields, shape}
 use Rattle.reader.specs.declared.Cursor.{Cursor}
+use Rattle.reader.specs.declared.Fault.{Fault}
+use Rattle.reader.specs.declared.Fault.TheVariants.{Cut, Corrupt}
 use Rattle.reader.specs.declared.Kind.{Kind}
+use Rattle.reader.specs.declared.Kind.TheVariants.{Gps, Home}
 use Rattle.reader.specs.declared.RestorePoint.{RestorePoint}
-use Rattle.reader.specs.declared.Skip.{Skip}
-use Rattle.reader.specs.declared.Step.TheVariants as step
-use Rattle.reader.specs.Got.{Spent, Got, got, cut, corrupt, over}
-use Rattle.reader.specs.Place.{rest, on, point_of, place_of}
-use Rattle.reader.specs.Search.{seek}
+use Rattle.reader.specs.Got.{Spent, Got, got, cut, corrupt, over, fault}
+use Rattle.reader.specs.Place.{rest, on, point_of, place_of, read_at}
+use Rattle.reader.proofs.Reading.{met, ok_parts}
+use Rattle.reader.specs.Search.{ahead}
 use Rattle.raws.specs.declared.Front.{Front}
 use Rattle.raws.specs.declared.Raw.{Raw}
-use Rattle.raws.specs.declared.Reading as raws
-use Rattle.raws.specs.Place.{stopped_at, raw_at}
+use Rattle.raws.specs.Place.{Lent, lent_at}
 use Rattle.raws.specs.Place as rooms
 use Rattle.raws.specs.Raws.{intra_raw, inter_raw}
-use Rattle.raws.proofs.Frames.{counted}
 use Rattle.event.specs.declared.Event.{Event}
-use Rattle.event.specs.declared.Reading as event
-use Rattle.event.specs.declared.Reading.TheVariants.{Told, Cut, Corrupt}
-use Rattle.event.specs.Place.{event_at}
 use Rattle.extent.specs.declared.Found.{Found}
 use Rattle.extent.specs.declared.Found.TheVariants.{Intra}
 use Rattle.extent.specs.declared.Look.{Look}
@@ -48,84 +47,73 @@ forward {c} {q = q} w = let z : c.at + w.spent.bytes ≡ q.at = ap (λ (p : Curs
 -- ## Readings of fields
 
 module _ (f : Found) (c : Cursor) where
-  fields_next : (g : Got Raw) {q : Cursor} → (raw_at c g).step ≡ step.Next q → Gives c (over (content f) g) (content f (raw_at c g).raw) q
-  unfolding raw_at stopped_at over
-  fields_next (got x u) h = record { spent = u; is = refl; place = cc }
-  fields_next cut h = let z : ◌≡◌ {A = ℕ} 0 1 = cc in absurd (omega arith)
-  fields_next corrupt h = let z : ◌≡◌ {A = ℕ} 0 1 = cc in absurd (omega arith)
+  fields_ok : (g : Got Raw) (x : Front) (vs : List ℕ) → rooms.beside (Ok x) vs ≡ lent_at c g
+      → Gives c (over (content f) g) (content f (record { iteration = x.iteration; time = x.time; fields = vs })) x.behind
+  unfolding lent_at over
+  fields_ok (got y u) x vs e =
+      let front : x ≡ record { behind = on c u; iteration = y.iteration; time = y.time } = cc (ap (λ (l : Lent). l.front) e) in
+      let fields : vs ≡ y.fields = ap (λ (l : Lent). l.fields) e in
+      record {
+        spent = u;
+        is = λ i. got (content f (record { iteration = (sym front i).iteration; time = (sym front i).time; fields = sym fields i })) u;
+        place = ap (λ (x : Front). x.behind) (sym front);
+      }
+  fields_ok cut x vs e = absurd (cc (ap (λ (l : Lent). l.front) e))
+  fields_ok corrupt x vs e = absurd (cc (ap (λ (l : Lent). l.front) e))
 
-  fields_cut : (g : Got Raw) → (raw_at c g).step ≡ step.Cut → over (content f) g ≡ cut
-  unfolding raw_at stopped_at over
-  fields_cut (got x u) h = cc
-  fields_cut cut h = refl
-  fields_cut corrupt h = cc
+  fields_err : (g : Got Raw) (d : Fault) (vs : List ℕ) → rooms.beside (Err d) vs ≡ lent_at c g → over (content f) g ≡ met d
+  unfolding lent_at over
+  fields_err (got y u) d vs e = absurd (cc (ap (λ (l : Lent). l.front) e))
+  fields_err cut d vs e = let same : d ≡ Cut = cc (ap (λ (l : Lent). l.front) e) in rw same
+  fields_err corrupt d vs e = let same : d ≡ Corrupt = cc (ap (λ (l : Lent). l.front) e) in rw same
 
-  fields_corrupt : (g : Got Raw) → (raw_at c g).step ≡ step.Corrupt → over (content f) g ≡ corrupt
-  unfolding raw_at stopped_at over
-  fields_corrupt (got x u) h = cc
-  fields_corrupt cut h = cc
-  fields_corrupt corrupt h = refl
+  module _ (g : Got Raw) {r : Result Front Fault} {vs : List ℕ} (e : rooms.beside r vs ≡ lent_at c g) where
+    pub raw_ok : {x : Front} → r ≡ Ok x → Gives c (over (content f) g) (content f (record { iteration = x.iteration; time = x.time; fields = vs })) x.behind
+    raw_ok {x} h = fields_ok g x vs (ap (λ r. rooms.beside r vs) (sym h) ∙ e)
 
-  module _ (g : Got Raw) {r : raws.Reading} (e : r ≡ raw_at c g) where
-    pub raw_next : {q : Cursor} → r.step ≡ step.Next q → Gives c (over (content f) g) (content f r.raw) q
-    raw_next {q} h =
-        subst (λ (y : raws.Reading). Gives c (over (content f) g) (content f y.raw) q)
-        (sym e) (fields_next g (sym (ap (λ (y : raws.Reading). y.step) e) ∙ h))
-
-    pub raw_cut : r.step ≡ step.Cut → over (content f) g ≡ cut
-    raw_cut h = fields_cut g (sym (ap (λ (y : raws.Reading). y.step) e) ∙ h)
-
-    pub raw_corrupt : r.step ≡ step.Corrupt → over (content f) g ≡ corrupt
-    raw_corrupt h = fields_corrupt g (sym (ap (λ (y : raws.Reading). y.step) e) ∙ h)
-
--- whatever frame it is tried as
-pub raw_forward : (c : Cursor) (g : Got Raw) {r : raws.Reading} {q : Cursor} → r ≡ raw_at c g → r.step ≡ step.Next q → c.at ≤ q.at
-raw_forward c g e h = forward (raw_next Intra c g e h)
+    pub raw_err : {d d' : Fault} → r ≡ Err d → d ≡ d' → over (content f) g ≡ met d'
+    raw_err {d} h same = fields_err g d vs (ap (λ r. rooms.beside r vs) (sym h) ∙ e) ∙ ap met same
 
 -- ## Readings of events
 
 module _ (c : Cursor) where
-  pub event_told : (g : Got Event) {r : event.Reading} {x : Event} {q : Cursor} → r ≡ event_at c g → r ≡ Told x q → Gives c (over told g) (told x) q
-  unfolding event_at over
-  event_told (got y u) {x = x} e h = let same : y ≡ x = cc in record { spent = u; is = ap (λ z. got (told z) u) same; place = cc }
-  event_told cut e h = let z : ◌≡◌ {A = ℕ} 0 1 = cc in absurd (omega arith)
-  event_told corrupt e h = let z : ◌≡◌ {A = ℕ} 0 1 = cc in absurd (omega arith)
+  pub event_ok : (g : Got Event) {r : Result (Event × Cursor) Fault} {x : Event} {q : Cursor} → r ≡ read_at c g → r ≡ Ok (x, q)
+      → Gives c (over told g) (told x) q
+  unfolding read_at over
+  event_ok (got y u) e h =
+      let same = ok_parts (sym e ∙ h) in record { spent = u; is = ap (λ z. got (told z) u) same.0; place = same.1 }
+  event_ok cut e h = absurd (cc)
+  event_ok corrupt e h = absurd (cc)
 
-  pub event_cut : (g : Got Event) {r : event.Reading} → r ≡ event_at c g → r ≡ Cut → over told g ≡ cut
-  unfolding event_at over
-  event_cut (got y u) e h = cc
-  event_cut cut e h = refl
-  event_cut corrupt e h = cc
-
-  pub event_corrupt : (g : Got Event) {r : event.Reading} → r ≡ event_at c g → r ≡ Corrupt → over told g ≡ corrupt
-  unfolding event_at over
-  event_corrupt (got y u) e h = cc
-  event_corrupt cut e h = cc
-  event_corrupt corrupt e h = refl
+  pub event_err : (g : Got Event) {r : Result (Event × Cursor) Fault} {d d' : Fault} → r ≡ read_at c g → r ≡ Err d → d ≡ d' → over told g ≡ met d'
+  unfolding read_at over
+  event_err (got y u) e h same = absurd (cc)
+  event_err cut {d' = d'} e h same = let same : d' ≡ Cut = cc in rw same
+  event_err corrupt {d' = d'} e h same = let same : d' ≡ Corrupt = cc in rw same
 
 -- ## The ways through a trial
 
 module _ (k : Kind) (s : List ℕ) (c : Cursor) {g : Got Content} where
   module _ {x : Content} {q : Cursor} {b : Bool} (w : Gives c g x q) (ends : b ≡ closed (rest q s)) where
     read_on : judged k (rest c s) g
-        ≡ cond b (record { seen = Accepted x.frame (q.at - c.at); raw = x.raw }) (bare (Rejected k (seek (rest c s))))
+        ≡ cond b (record { seen = Accepted x.frame (q.at - c.at); raw = x.raw }) (bare (Rejected k (ahead (rest c s))))
     unfolding judged
     read_on =
         let behind : drop w.spent.bytes (rest c s) ≡ rest q s = drop-drop w.spent.bytes c.at s ∙ ap (λ (p : Cursor). rest p s) w.place in
         let z : c.at + w.spent.bytes ≡ q.at = ap (λ (p : Cursor). p.at) w.place in
         let more : w.spent.bytes ≡ q.at - c.at = omega arith in
         ap (judged k (rest c s)) w.is
-        ∙ ap (λ t. cond t (record { seen = Accepted x.frame w.spent.bytes; raw = x.raw }) (bare (Rejected k (seek (rest c s)))))
+        ∙ ap (λ t. cond t (record { seen = Accepted x.frame w.spent.bytes; raw = x.raw }) (bare (Rejected k (ahead (rest c s)))))
         (ap closed behind ∙ sym ends)
-        ∙ ap (λ n. cond b (record { seen = Accepted x.frame n; raw = x.raw }) (bare (Rejected k (seek (rest c s))))) more
+        ∙ ap (λ n. cond b (record { seen = Accepted x.frame n; raw = x.raw }) (bare (Rejected k (ahead (rest c s))))) more
 
     pub accepted : {y : Look} → b ≡ true → y ≡ record { seen = Accepted x.frame (q.at - c.at); raw = x.raw } → y ≡ judged k (rest c s) g
     accepted is e = e ∙ sym (read_on ∙ rw is)
 
-    pub not_closed : {p : RestorePoint} {y : Look} → b ≡ false → p ≡ point_of c → y ≡ bare (Rejected k (seek (rest (place_of p) s))) → y ≡ judged k (rest c s) g
+    pub not_closed : {p : RestorePoint} {y : Look} → b ≡ false → p ≡ point_of c → y ≡ bare (Rejected k (ahead (rest (place_of p) s))) → y ≡ judged k (rest c s) g
     not_closed open-end point e = e ∙ ap (λ j. bare (Rejected k j)) (from_point s c point) ∙ sym (read_on ∙ rw open-end)
 
-  pub no_frame : {p : RestorePoint} {y : Look} → g ≡ corrupt → p ≡ point_of c → y ≡ bare (Rejected k (seek (rest (place_of p) s))) → y ≡ judged k (rest c s) g
+  pub no_frame : {p : RestorePoint} {y : Look} → g ≡ corrupt → p ≡ point_of c → y ≡ bare (Rejected k (ahead (rest (place_of p) s))) → y ≡ judged k (rest c s) g
   unfolding judged
   no_frame h point e = e ∙ ap (λ j. bare (Rejected k j)) (from_point s c point) ∙ sym (ap (judged k (rest c s)) h)
 
@@ -134,27 +122,35 @@ unfolding judged
 cut_off k t h e = e ∙ sym (ap (judged k t) h)
 
 -- a rejected trial, by what its search came to
-pub rejected_by : (k : Kind) {j i : Skip} {y : Look} → y ≡ bare (Rejected k j) → j ≡ i → y ≡ bare (Rejected k i)
+pub rejected_by : (k : Kind) {j i : Option ℕ} {y : Look} → y ≡ bare (Rejected k j) → j ≡ i → y ≡ bare (Rejected k i)
 rejected_by k e made = e ∙ ap (λ m. bare (Rejected k m)) made
 
 -- ## By the kind
 
 -- what is known of a kind, for a value that is this kind
-pub of_kind : (h : Shape) (t : List ℕ) (j : Kind) {k : Kind} {y : Look} → k ≡ j → y ≡ judged j t (trial h j t) → y ≡ judged k t (trial h k t)
-of_kind h t j same e = e ∙ ap (λ i. judged i t (trial h i t)) (sym same)
+pub of_kind : (h : Shape) (t : List ℕ) (j k : Kind) {y : Look} → k ≡ j → y ≡ judged k t (trial h j t) → y ≡ judged k t (trial h k t)
+of_kind h t j k same e = e ∙ ap (λ i. judged k t (trial h i t)) (sym same)
+
+-- G and H are corrupt at once
+pub none_of : (h : Shape) (t : List ℕ) {k : Kind} → (k ≡ Gps) ⊎ (k ≡ Home) → trial h k t ≡ corrupt
+unfolding trial fault
+none_of h t same = ⊎_elim (λ e. ap (λ k. trial h k t) e) (λ e. ap (λ k. trial h k t) e) same
+
+pub as_kind : (h : Shape) (t : List ℕ) {j k : Kind} {y : Look} → k ≡ j → y ≡ judged j t (trial h j t) → y ≡ judged k t (trial h k t)
+as_kind h t same e = e ∙ ap (λ i. judged i t (trial h i t)) (sym same)
 
 -- a reading behind a kind byte goes on no further back
-pub goes_on : (c : Cursor) (g : Got Raw) {x : Front} {vs : List ℕ} → rooms.beside x vs ≡ raw_at c g → GoesOn c x
-goes_on c g e = record { forward = λ q h. raw_forward c g e h }
+pub goes_on : (c : Cursor) (g : Got Raw) {x : Result Front Fault} {vs : List ℕ} → rooms.beside x vs ≡ lent_at c g → GoesOn c x
+goes_on c g e = record { forward = λ q h. forward (raw_ok Intra c g e h) }
 
 -- the frames of a definition: as the code counts their fields, and as the meaning reads them
-module _ (d : Definition) (s : List ℕ) (c : Cursor) {x : raws.Reading} {n : ℕ} where
-  pub intra_of : n ≡ fields d.main → x ≡ raw_at c (intra_raw (take n d.main.intra_encodings) (rest c s))
-      → x ≡ raw_at c (intra_raw (shape d).intra (rest c s))
+module _ (d : Definition) (s : List ℕ) (c : Cursor) {x : Lent} {n : ℕ} where
+  pub intra_of : n ≡ fields d.main → x ≡ lent_at c (intra_raw (take n d.main.intra_encodings) (rest c s))
+      → x ≡ lent_at c (intra_raw (shape d).intra (rest c s))
   unfolding shape
-  intra_of count e = counted intra_raw _ s c e count
+  intra_of count e = e ∙ ap (λ n. lent_at c (intra_raw (take n d.main.intra_encodings) (rest c s))) count
 
-  pub inter_of : n ≡ fields d.main → x ≡ raw_at c (inter_raw (take n d.main.inter_encodings) (rest c s))
-      → x ≡ raw_at c (inter_raw (shape d).inter (rest c s))
+  pub inter_of : n ≡ fields d.main → x ≡ lent_at c (inter_raw (take n d.main.inter_encodings) (rest c s))
+      → x ≡ lent_at c (inter_raw (shape d).inter (rest c s))
   unfolding shape
-  inter_of count e = counted inter_raw _ s c e count
+  inter_of count e = e ∙ ap (λ n. lent_at c (inter_raw (take n d.main.inter_encodings) (rest c s))) count

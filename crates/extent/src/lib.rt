@@ -6,7 +6,7 @@ ghost use Rattle.std.specs.Prelude.{◌≡◌};
 ghost use Rattle.plan.specs.Plan.{shape};
 ghost use Rattle.reader.specs.Place.{rest, place_of};
 ghost use Rattle.reader.specs.Got.{over};
-ghost use Rattle.reader.specs.Search.{seek};
+ghost use Rattle.reader.specs.Search.{ahead};
 ghost use Rattle.reader.specs.declared.Kind.TheVariants.{Event};
 ghost use Rattle.event.specs.Events.{event_read};
 ghost use Rattle.extent.specs.declared.Seen.TheVariants.{Rejected};
@@ -16,9 +16,9 @@ ghost use Rattle.extent.specs.Sight.{Barren, beside, GoesOn, Judges};
 
 use plan::Definition;
 use raws::{Front, Raw};
-use reader::{Byte, Cursor, Kind, Letter, RestorePoint, Skip, Step};
+use reader::{Cursor, Fault, Kind, RestorePoint};
 
-// An accepted frame. The raw numbers of a main or slow frame stand beside it: an enum holds no array.
+// An accepted frame. The raw numbers of a main or slow frame stand beside it, in lent rooms.
 #[derive(Clone, Copy)]
 pub enum Found {
     Event(event::Event),
@@ -27,13 +27,13 @@ pub enum Found {
     Slow,
 }
 
-// What stands at a place: nothing; a byte that starts no frame, and a search; a trial that is rejected, and a search;
+// What stands at a place: nothing; a byte that starts no frame, and what a search finds; a trial that is rejected, and what a search finds;
 // a trial that the data ends in; an accepted frame, over its kind byte and so many bytes more.
 #[derive(Clone, Copy)]
 pub enum Seen {
     Nothing,
-    Passed(Skip),
-    Rejected(Kind, Skip),
+    Passed(Option<usize>),
+    Rejected(Kind, Option<usize>),
     Cutoff(Kind),
     Accepted(Found, usize),
 }
@@ -72,29 +72,19 @@ impl Glance {
 fn is_closed(s: &[u8], at: Cursor) -> bool
     ensures { result ≡ closed (rest at s.now) }
 {
-    let byte = reader::read_u8(s, at);
-    match byte {
-        Byte::Here(b, _) => {
-            let letter = Letter::from_byte(b);
-            match letter {
-                Letter::Is(_) => true,
-                Letter::Other => false,
-            }
-        }
-        Byte::End => true,
+    match reader::read_u8(s, at) {
+        Some((b, _)) => Kind::from_byte(b).is_some(),
+        None => true,
     }
 }
 
 // A search from a point on, which is not made where it is known to find nothing: no section is searched over and over.
-fn search(s: &[u8], from: RestorePoint, barren: bool) -> Skip
+fn search(s: &[u8], from: RestorePoint, barren: bool) -> Option<usize>
     requires { Barren barren s.now (place_of from).at }
-    ensures { result ≡ seek (rest (place_of from) s.now) }
+    ensures { result ≡ ahead (rest (place_of from) s.now) }
 {
     if barren {
-        return Skip {
-            by: 0,
-            barren: true,
-        };
+        return None;
     }
     reader::skip_to_frame(s, from)
 }
@@ -114,7 +104,7 @@ fn without_numbers(seen: Seen, out: &mut [u32; 62]) -> Glance
 // The search starts behind the kind byte, wherever decoding stopped.
 fn rejected(kind: Kind, s: &[u8], from: RestorePoint, barren: bool, out: &mut [u32; 62]) -> Glance
     requires { Barren barren s.now (place_of from).at }
-    ensures { beside result out.new ≡ bare (Rejected kind (seek (rest (place_of from) s.now))) }
+    ensures { beside result out.new ≡ bare (Rejected kind (ahead (rest (place_of from) s.now))) }
 {
     let skip = search(s, from, barren);
     without_numbers(Seen::Rejected(kind, skip), out)
@@ -122,7 +112,7 @@ fn rejected(kind: Kind, s: &[u8], from: RestorePoint, barren: bool, out: &mut [u
 
 // What becomes of a trial of a main or slow frame, by the reading behind its kind byte, of which the rooms hold the numbers.
 fn judge(
-    reading: Front,
+    reading: Result<Front, Fault>,
     kind: Kind,
     frame: Found,
     s: &[u8],
@@ -134,21 +124,22 @@ fn judge(
     ensures { Judges reading kind frame s.now from out.old result out.new }
 {
     let start = from.get_restore_point();
-    let step = reading.step;
-    match step {
-        Step::Next(behind) => {
-            if is_closed(s, behind) {
-                let more = behind.at - from.at;
+    match reading {
+        Ok(front) => {
+            if is_closed(s, front.behind) {
+                let more = front.behind.at - from.at;
                 return Glance {
                     seen: Seen::Accepted(frame, more),
-                    iteration: reading.iteration,
-                    time: reading.time,
+                    iteration: front.iteration,
+                    time: front.time,
                 };
             }
             rejected(kind, s, start, barren, out)
         }
-        Step::Cut => without_numbers(Seen::Cutoff(kind), out),
-        Step::Corrupt => rejected(kind, s, start, barren, out),
+        Err(fault) => match fault {
+            Fault::Cut => without_numbers(Seen::Cutoff(kind), out),
+            Fault::Corrupt => rejected(kind, s, start, barren, out),
+        },
     }
 }
 
@@ -157,17 +148,16 @@ fn try_event(s: &[u8], from: Cursor, barren: bool, out: &mut [u32; 62]) -> Glanc
     ensures { beside result out.new ≡ judged Event (rest from s.now) (over told (event_read (rest from s.now))) }
 {
     let start = from.get_restore_point();
-    let reading = event::read(s, from);
-    match reading {
-        event::Reading::Told(event, behind) => {
+    match event::read(s, from) {
+        Ok((event, behind)) => {
             if is_closed(s, behind) {
                 let more = behind.at - from.at;
                 return without_numbers(Seen::Accepted(Found::Event(event), more), out);
             }
             rejected(Kind::Event, s, start, barren, out)
         }
-        event::Reading::Cut => without_numbers(Seen::Cutoff(Kind::Event), out),
-        event::Reading::Corrupt => rejected(Kind::Event, s, start, barren, out),
+        Err(Fault::Cut) => without_numbers(Seen::Cutoff(Kind::Event), out),
+        Err(Fault::Corrupt) => rejected(Kind::Event, s, start, barren, out),
     }
 }
 
@@ -188,21 +178,17 @@ fn try_kind(
     match kind {
         Kind::Event => try_event(s, from, barren, out),
         Kind::Intra => {
-            let encodings = main.intra_encodings;
-            let reading = raws::intra_into(main.fields(), &encodings, s, from, out);
-            judge(reading, Kind::Intra, Found::Intra, s, from, barren, out)
+            let reading = raws::intra_into(main.fields(), &main.intra_encodings, s, from, out);
+            judge(reading, kind, Found::Intra, s, from, barren, out)
         }
         Kind::Inter => {
-            let encodings = main.inter_encodings;
-            let reading = raws::inter_into(main.fields(), &encodings, s, from, out);
-            judge(reading, Kind::Inter, Found::Inter, s, from, barren, out)
+            let reading = raws::inter_into(main.fields(), &main.inter_encodings, s, from, out);
+            judge(reading, kind, Found::Inter, s, from, barren, out)
         }
-        Kind::Gps => rejected(Kind::Gps, s, from.get_restore_point(), barren, out),
-        Kind::Home => rejected(Kind::Home, s, from.get_restore_point(), barren, out),
+        Kind::Gps | Kind::Home => rejected(kind, s, from.get_restore_point(), barren, out),
         Kind::Slow => {
-            let encodings = slow.encodings;
-            let reading = raws::slow_into(slow.n, &encodings, s, from, out);
-            judge(reading, Kind::Slow, Found::Slow, s, from, barren, out)
+            let reading = raws::slow_into(slow.n, &slow.encodings, s, from, out);
+            judge(reading, kind, Found::Slow, s, from, barren, out)
         }
     }
 }
@@ -218,19 +204,15 @@ pub fn sight_into(
     requires { Barren barren s.now place }
     ensures { SightOwes d s.now place (beside result out.new) }
 {
-    let byte = reader::read_u8(s, Cursor { at: place });
-    match byte {
-        Byte::Here(b, behind) => {
-            let letter = Letter::from_byte(b);
-            match letter {
-                Letter::Is(kind) => try_kind(d, kind, s, behind, barren, out),
-                Letter::Other => {
-                    let skip = search(s, behind.get_restore_point(), barren);
-                    without_numbers(Seen::Passed(skip), out)
-                }
+    match reader::read_u8(s, Cursor { at: place }) {
+        Some((b, behind)) => match Kind::from_byte(b) {
+            Some(kind) => try_kind(d, kind, s, behind, barren, out),
+            None => {
+                let found = search(s, behind.get_restore_point(), barren);
+                without_numbers(Seen::Passed(found), out)
             }
-        }
-        Byte::End => without_numbers(Seen::Nothing, out),
+        },
+        None => without_numbers(Seen::Nothing, out),
     }
 }
 

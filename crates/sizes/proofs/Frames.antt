@@ -1,10 +1,10 @@
 -- Main frames keep to their room: 62 values of 32 bits, an iteration of 32, a time of 64; and so does the history behind an accepted frame.
 use Prim.Native.Nat.{ℕ}
 use mathlib.Core.List.{List, []}
-use mathlib.Core.Option.{Option, none}
 use native.Mathlib.Omega.{arith}
 use lib.ListN.{replicate}
 use lib.Seq.{length-sets}
+use Rattle.std.specs.Prelude.{Option, None}
 use Rattle.plan.specs.declared.Definition.{Definition}
 use Rattle.plan.specs.Plan.{Shape, Rules, shape, rules}
 use Rattle.raws.specs.declared.Raw.{Raw}
@@ -49,7 +49,7 @@ no_frame_sized = main_sized Absent 0 0 [] (omega arith) (omega arith) tt
 module _ (h : Shape) (r : Rules) (p : Past) (x : Raw) where
   pub intra_sized : RawSized x → FrameSized (intra_frame h r p x)
   unfolding intra_frame
-  intra_sized z = made_sized Intra x.iteration x.time (intra_fields h r) (values_in p.last) none x.fields z.iteration (omega (arith, z.time))
+  intra_sized z = made_sized Intra x.iteration x.time (intra_fields h r) (values_in p.last) None x.fields z.iteration (omega (arith, z.time))
 
   -- whatever was read
   pub inter_sized : FrameSized (inter_frame h r p x)

@@ -3,12 +3,11 @@ use Prim.Native.Nat.{ℕ}
 use mathlib.Core.List.{List, [], ◌∷◌}
 use native.Mathlib.Omega.{arith}
 use lib.ListN.{drop}
+use Rattle.std.specs.Prelude.{Option, Some, None}
 use Rattle.bits.proofs.Laws.{by_test}
 use Rattle.plan.specs.Plan.{Shape}
 use Rattle.reader.specs.declared.Kind.{Kind}
 use Rattle.reader.specs.declared.Kind.TheVariants.{Event, Intra, Inter, Gps, Home, Slow}
-use Rattle.reader.specs.declared.Letter.{Letter}
-use Rattle.reader.specs.declared.Letter.TheVariants.{Is, Other}
 use Rattle.reader.specs.Got.{Got, got, cut, corrupt}
 use Rattle.reader.specs.Search.{letter_of}
 use Rattle.reader.proofs.Every.{Bytes, Every, Reads, any_reads, fault_reads}
@@ -46,10 +45,10 @@ judged_sized k c (got x u) z = by_test (λ (l : Look). RawSized l.raw) (closed (
 judged_sized k c cut z = no_raw_sized
 judged_sized k c corrupt z = no_raw_sized
 
-begun_sized : (h : Shape) (l : Letter) (c : List ℕ) → Bytes c → RawSized (begun h l c).raw
+begun_sized : (h : Shape) (l : Option Kind) (c : List ℕ) → Bytes c → RawSized (begun h l c).raw
 unfolding begun
-begun_sized h (Is k) c b = judged_sized k c (trial h k c) ((trial_sized h k).every c b)
-begun_sized h Other c b = no_raw_sized
+begun_sized h (Some k) c b = judged_sized k c (trial h k c) ((trial_sized h k).every c b)
+begun_sized h None c b = no_raw_sized
 
 pub look_sized : (h : Shape) (c : List ℕ) → Bytes c → RawSized (look h c).raw
 unfolding look
