@@ -105,6 +105,7 @@ fn section_start(text: &[u8]) -> usize
     start
 }
 
+#[tactic(auto, unfolding(crate::specs::Header::header_of))]
 pub fn read(text: &[u8]) -> Header
     ensures { ReadOwes text.now result }
 {

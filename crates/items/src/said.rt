@@ -69,6 +69,7 @@ fn encoding(item: &[u8]) -> u8
 }
 
 // Bytes 9 to 13 and 32: tab, line feed, vertical tab, form feed, carriage return, space.
+#[tactic(auto, unfolding(crate::specs::Said::blank))]
 fn is_blank(b: u8) -> bool
     ensures { result ≡ blank b }
 {
@@ -89,22 +90,19 @@ fn past_blanks(item: &[u8], from: usize) -> usize
 }
 
 // 0 for unsigned: a `0` with nothing but blanks around it.
+#[tactic(auto, using(crate::proofs::Blanks::sign_zero, crate::proofs::Blanks::sign_more, crate::proofs::Blanks::sign_other, crate::proofs::Blanks::sign_end))]
 fn sign(item: &[u8]) -> u8
     ensures { result ≡ sign_code item.now }
 {
     let a = past_blanks(item, 0);
-    if a < item.len() {
-        if item[a] == b'0' {
-            let b = past_blanks(item, a + 1);
-            if b == item.len() {
-                return 0;
-            }
-        }
+    if a < item.len() && item[a] == b'0' && past_blanks(item, a + 1) == item.len() {
+        return 0;
     }
     1
 }
 
 // What an item of a list says.
+#[tactic(auto, unfolding(crate::specs::Rows::code_of))]
 pub(crate) fn code(item: &[u8], of: Of) -> u8
     ensures { result ≡ code_of of item.now }
 {

@@ -61,6 +61,7 @@ fn header_number(s: &[u8]) -> Option<u16>
 }
 
 // What stands behind the byte at a place.
+#[tactic(auto, using(digits::proofs::Parting::rest_all, crate::proofs::Texts::none_behind))]
 fn behind(s: &[u8], at: usize) -> &[u8]
     ensures { result.now ≡ drop (at + 1) s.now }
 {
@@ -163,6 +164,7 @@ fn intra(log: &[u8], numerator: u32, denominator: u32) -> u32
     }
 }
 
+#[tactic(auto, using(crate::proofs::Settling::interval_made))]
 fn interval(log: &[u8]) -> FrameInterval
     ensures { result ≡ interval_of log.now }
 {

@@ -21,6 +21,7 @@ pub fn are_settings(s: &[u8]) -> bool
 }
 
 // The number at a place, or its default.
+#[tactic(auto, using(crate::proofs::Kept::setting_lacking, crate::proofs::Kept::setting_there))]
 fn setting(s: &[u8], at: usize, default: u32) -> u32
     requires { at ≤ 20 }
     ensures { result ≡ setting_at at default s.now }
@@ -42,6 +43,7 @@ pub fn numbers_in(s: &[u8]) -> Numbers
     }
 }
 
+#[tactic(auto, using(crate::proofs::Kept::settings_in_law))]
 pub fn settings_in(s: &[u8]) -> Settings
     ensures { SettingsInOwes s.now result }
 {
