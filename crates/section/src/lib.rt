@@ -10,13 +10,15 @@ ghost use Rattle.section.specs.Owes.{IsOverOwes, StartOwes, PutOwes, FieldsOfOwe
 ghost use Rattle.section.specs.Refusals.{admitted};
 ghost use Rattle.section.specs.Walk.{tick};
 
+use crate::accepted::looked;
 use crate::refusals::check;
 use event::Event;
-use extent::{Glance, Look};
+use extent::{Look, Seen};
 use history::History;
 use plan::Definition;
 use reader::Kind;
 
+mod accepted;
 pub mod counting;
 pub mod quick;
 pub mod refusals;
@@ -166,20 +168,22 @@ pub fn fields_of(d: Definition, answer: Answer) -> usize
     }
 }
 
-// What a look does to a walk over a section of so many bytes: `settle_in`, with rooms of its own.
+// What a look does to a walk over a section of so many bytes.
+#[tactic(auto, unfolding(crate::specs::Walk::settled, crate::specs::Walk::answer_after, crate::specs::Walk::fields_after, crate::specs::Walk::history_after))]
 pub fn settle(d: Definition, w: Walk, l: Look, length: usize, out: &mut [u32]) -> Looked
     requires { Fits w.tally l.seen length × Rooms d (ListN.length out.old) }
     ensures { SettleOwes d w l length out.old result out.new }
 {
-    let raw = l.raw;
-    let glance = Glance {
-        seen: l.seen,
-        iteration: raw.iteration,
-        time: raw.time,
-    };
-    let mut values = w.values();
-    let settled = quick::settle_in(d, w.light(), glance, &raw.fields, length, &mut values);
-    settled.hand_out(d, &values, out)
+    let at = w.tally.place;
+    let history = w.history;
+    let tally = w.tally.after(l.seen, length);
+    match l.seen {
+        Seen::Nothing => looked(Answer::Over(Ending::Out), tally, history),
+        Seen::Passed(_) => looked(Answer::Passed, tally, history),
+        Seen::Rejected(kind, _) => looked(Answer::Rejected(kind, at), tally, history),
+        Seen::Cutoff(kind) => looked(Answer::Over(Ending::Cut(kind, at)), tally, history),
+        Seen::Accepted(frame, _) => accepted::settle(d, frame, l.raw, at, tally, history, out),
+    }
 }
 
 // A look from an admitted walk.
