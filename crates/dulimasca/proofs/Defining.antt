@@ -77,7 +77,7 @@ module _ (log chosen buf told : List ℕ) where
   module _ {u : Unit {0}} (room : ◌≡◌ {A = Check} (Ok u) (lent_for chosen buf told)) where
     pub define_room : told_length ≤ length told
     unfolding lent_for asked
-    define_room = (lent (are_settings chosen) (leb 438 (length buf)) room).0
+    define_room = (lent (are_settings chosen) (leb 438 (length buf)) {u = u} room).0
 
     module _ {h : Header} {numbers : Numbers} {rest : Settings} (d : Defined) (e : h ≡ header_of log)
         (f : numbers ≡ numbers_in chosen) (g : rest ≡ settings_in chosen) (is : answer_of d ≡ defined log h.lists numbers rest) where
@@ -86,7 +86,7 @@ module _ (log chosen buf told : List ℕ) where
       by_answer =
           ap (λ x. judged_reply h x buf told) is
           ∙ (λ i. judged_reply (e i) (defined log (e i).lists (f i) (g i)) buf told)
-          ∙ sym (lent (are_settings chosen) (leb 438 (length buf)) room).1
+          ∙ sym (lent (are_settings chosen) (leb 438 (length buf)) {u = u} room).1
 
       pub define_passed : {v : Unit {0}} {xs buf' told' : List ℕ} → d.verdict ≡ Ok v → buf' ≡ with_definition d.definition buf
           → xs ≡ padded 8 (about_log h d.definition) → told' ≡ sets told 0 (longs xs) → DefineOwes log chosen buf told 0 buf' told'

@@ -58,13 +58,15 @@ module _ (def st s out told : List ℕ) where
       pub rows_unchecked : (why : Refusal) → CheckOwes d w (length s) (length out) (Err why) → RowsOwes def st s out told (packed_by why 1) st out told
       unfolding next_rows
       rows_unchecked why verdict =
-          refused (checked_rows d w (length s) (length out)) (rows_from d s (length out / row_length d) w) st out told (sym (check_is d w _ _ verdict)) ∙ by_next
+          refused (checked_rows d w (length s) (length out)) (rows_from d s (length out / row_length d) w) st out told (sym (check_is d w _ _ verdict))
+          ∙ by_next
 
       pub rows_untold : (u : Unit {0}) → CheckOwes d w (length s) (length out) (Ok u) → length told < told_length
           → RowsOwes def st s out told (packed_by (TooShort told_length) 1) st out told
       unfolding next_rows
       rows_untold u verdict h =
-          untold (checked_rows d w (length s) (length out)) (rows_from d s (length out / row_length d) w) st out told (sym (check_is d w _ _ verdict)) h ∙ by_next
+          untold (checked_rows d w (length s) (length out)) (rows_from d s (length out / row_length d) w) st out told (sym (check_is d w _ _ verdict)) h
+          ∙ by_next
 
       pub rows_refused : (why : Refusal) {out' : List ℕ} → NextOwes d w s out (Err why) out' → RowsOwes def st s out told (packed_by why 1) st out' told
       unfolding next_rows

@@ -56,6 +56,7 @@ module _ (def : List ℕ) (kind : ℕ) (main slow : List ℕ) (k : ℕ) (told : 
         unfolding name_reply
         name_there s n h = ap (reply 0 []) (tells (s.start ∷ s.end ∷ []) told refl h) ∙ by_name n
 
-        pub name_none : {told' : List ℕ} → None ≡ name_at d of main slow k → told' ≡ sets told 0 (longs (padded 8 [])) → NameOwes def kind main slow k told 4 told'
+        pub name_none : {told' : List ℕ} → None ≡ name_at d of main slow k → told' ≡ sets told 0 (longs (padded 8 []))
+            → NameOwes def kind main slow k told 4 told'
         unfolding name_reply
         name_none n h = ap (reply 4 []) (tells [] told refl h) ∙ by_name n

@@ -8,7 +8,7 @@ use Rattle.header.specs.Header.{header_of}
 use Rattle.definition.specs.Checks.{Finding}
 use Rattle.definition.specs.Defined.{Answer, defined}
 use Rattle.names.specs.Names.{name_at}
-use Rattle.section.specs.declared.Refusal.TheVariants.{Unsound}
+use Rattle.section.specs.declared.Refusal.TheVariants.{Unsound, TooShort}
 use Rattle.section.specs.Refusals.{Check}
 use Rattle.section.specs.Walk.{start}
 use Rattle.rows.specs.Rows.{row_length}
@@ -53,7 +53,8 @@ defined_by log chosen buf told =
 
 -- what is lent: settings, and room for a definition and for the numbers
 unfoldable pub lent_for : (chosen buf told : List ℕ) → Check
-lent_for chosen buf told = cond (are_settings chosen) (cond (leb definition_length (length buf)) (roomy told told_length) (roomy buf definition_length)) (Err Unsound)
+lent_for chosen buf told =
+    cond (are_settings chosen) (cond (leb definition_length (length buf)) (roomy told told_length) (Err (TooShort definition_length))) (Err Unsound)
 
 -- bytes that are no settings, and buffers that are too short, are refused before the log is looked at
 unfoldable pub define_of : (log chosen buf told : List ℕ) → Reply

@@ -106,10 +106,7 @@ fn find_name(
     room(told, TOLD)?;
     match names::name_at(d, of, main, slow, k) {
         Some(name) => {
-            tell(
-                [name.start as u64, name.end as u64, 0, 0, 0, 0, 0, 0],
-                told,
-            );
+            tell([name.start as u64, name.end as u64, 0, 0, 0, 0, 0, 0], told);
             Ok(0)
         }
         None => {

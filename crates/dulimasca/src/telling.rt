@@ -127,7 +127,7 @@ pub(crate) fn tally_numbers(t: Tally, rows: usize) -> [u64; 8]
     ]
 }
 
-// An answer's number in document 01.
+// An answer's number in document 01, which C is told.
 #[tactic(auto, unfolding(section::specs::Answers::paper_of, crate::specs::Told::status_by))]
 pub(crate) fn number(answer: Answer) -> u64
     ensures { result ≡ (paper_of answer).number }

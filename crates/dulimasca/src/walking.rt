@@ -6,7 +6,8 @@ ghost use Rattle.dulimasca.specs.Owes.{StartOwes, CountOwes, FillOwes, RowsOwes}
 ghost use Rattle.dulimasca.specs.Told.{answered, in_bytes};
 
 use crate::telling::{
-    TOLD, answer, definition, fill_numbers, number, room, sort_for, status_by, tally_numbers, tell, walk,
+    TOLD, answer, definition, fill_numbers, number, room, sort_for, status_by, tally_numbers, tell,
+    walk,
 };
 use plan::Definition;
 use section::{Refusal, Walk};

@@ -1,5 +1,6 @@
 -- One call of `rows`: the bytes that it wrote are those of the next rows, as many as there was room for, and the state is the walk behind them.
 use Prim.Native.Nat.{ℕ, ◌+◌, ◌*◌, ◌/◌, ◌<◌, ◌≤◌}
+use Rattle.std.specs.Prelude.{Ok, Err}
 use mathlib.Core.Bool.{Bool, true, false, cond, false≢true}
 use mathlib.Core.List.{List, [], ◌∷◌, ◌++◌}
 use mathlib.Core.Path.{◌≡◌, refl, sym, ap, ◌∙◌, subst}
@@ -11,8 +12,7 @@ use lib.Seq.{sets, sets-eq, take_at}
 use borrow.Author.Tests.{lt-ltb, le-ltb, le-leb, leb-true, leb-false}
 use Rattle.bits.proofs.Laws.{by_test}
 use Rattle.plan.specs.declared.Definition.{Definition}
-use Rattle.section.specs.declared.Check.{Check}
-use Rattle.section.specs.declared.Check.TheVariants.{Pass, Refused}
+use Rattle.section.specs.Refusals.{Check, pass}
 use Rattle.section.specs.declared.Refusal.TheVariants.{TooShort, Unsound}
 use Rattle.section.specs.declared.Walk.{Walk}
 use Rattle.calls.proofs.Turns.{Kept, called_kept}
@@ -77,17 +77,17 @@ module _ (d : Definition) (s : List ℕ) (bytes : (i : ℕ) → get_or s i 0 < 2
 
     -- the reply by the verdict
     abbrev by : Check → RowsReply
-    by c = checked_reply c (checked_first c (rows_from d s k w) w out) st out told
+    by c = let x = checked_first c (rows_from d s k w) out in checked_reply x.given x.out st out told
 
     given : RowsReply
-    given = rows_reply (laid_out (rows_from d s k w) out) st told
+    given = let x = rows_from d s k w in rows_reply (record { count = length x.rows; walk = x.walk }) (sets out 0 (joined x.rows)) st told
 
-    there : given ≡ by Pass
-    unfolding checked_reply checked_first given
+    there : given ≡ by pass
+    unfolding checked_reply checked_first laid_out given
     there = simp (le-leb told_length (length told) told-room)
 
     rows_written : written d given ≡ joined (rows_from d s k w).rows
-    unfolding laid_out rows_reply written tally_numbers given
+    unfolding rows_reply written tally_numbers given
     rows_written =
         let x = rows_from d s k w in
         let n = length x.rows * row_length d in
@@ -98,8 +98,8 @@ module _ (d : Definition) (s : List ℕ) (bytes : (i : ℕ) → get_or s i 0 < 2
         ∙ ap (λ (c : ℕ). take (c * row_length d) (sets out 0 (joined x.rows))) seventh
         ∙ take_back out (joined x.rows) n (rows_long d s k w) (omega arith)
 
-    gives_full : Gives d s told k w (by Pass)
-    unfolding laid_out rows_reply given
+    gives_full : Gives d s told k w (by pass)
+    unfolding rows_reply given
     gives_full =
         let x = rows_from d s k w in
         let z = rows_sized k w kept sized in
@@ -111,7 +111,7 @@ module _ (d : Definition) (s : List ℕ) (bytes : (i : ℕ) → get_or s i 0 < 2
           long = telling_long (tally_numbers x.walk.tally ++ (length x.rows ∷ [])) told;
         })
 
-    gives_none : length out < row_length d → Gives d s told k w (by (Refused (TooShort (row_length d))))
+    gives_none : length out < row_length d → Gives d s told k w (by (Err (TooShort (row_length d))))
     unfolding checked_first checked_reply packed_by written rows_from joined
     gives_none h =
         let none : k ≡ 0 = div-eq_of_lt h in
@@ -128,7 +128,7 @@ module _ (d : Definition) (s : List ℕ) (bytes : (i : ℕ) → get_or s i 0 < 2
     gives_by : Gives d s told k w (rows_by d w st s out told)
     unfolding rows_by next_rows checked_rows
     gives_by =
-        let verdict : Bool → Check = λ q. cond q (cond (leb (row_length d) (length out)) Pass (Refused (TooShort (row_length d)))) (Refused Unsound) in
+        let verdict : Bool → Check = λ q. cond q (cond (leb (row_length d) (length out)) pass (Err (TooShort (row_length d)))) (Err Unsound) in
         subst (λ (q : Bool). Gives d s told k w (by (verdict q))) (sym kept.so)
         (by_test (λ (c : Check). Gives d s told k w (by c)) (leb (row_length d) (length out)) (λ t. gives_full)
         (λ t. gives_none (leb-false (row_length d) (length out) t)))

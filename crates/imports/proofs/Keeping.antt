@@ -2,7 +2,7 @@
 use Prim.Native.Nat.{ℕ, zero, suc, ◌+◌, ◌-◌, ◌≤◌}
 use mathlib.Core.Bool.{Bool, true, false, cond}
 use mathlib.Core.List.{List}
-use mathlib.Core.Option.{none, some}
+use Rattle.std.specs.Prelude.{None, Some}
 use mathlib.Core.Path.{◌≡◌, refl, ap, ◌∙◌}
 use native.Mathlib.Omega.{arith}
 use lib.ListN.{length}
@@ -117,10 +117,10 @@ module _ (text : List ℕ) (l : Lists) (n : Numbers) (s : Settings) (z : Sized n
   defined_sized = by (defined text l n s).finding refl
     where
       by : (f : Finding) → (defined text l n s).finding ≡ f → DefinitionSized (defined text l n s).definition
-      by none e =
+      by None e =
           let is = defined_accepted_has_its_fields text l n s e in
           rw is (fields_sized (rw is at (defined_counts text l n s e)))
-      by (some p) e = rw (defined_refused_has_no_fields text l n s e) nothing_sized
+      by (Some p) e = rw (defined_refused_has_no_fields text l n s e) nothing_sized
 
 -- ## In a buffer, where a log is accepted
 
@@ -128,7 +128,7 @@ module _ (log chosen buf told : List ℕ) (bytes : Bytes chosen) (is : are_setti
   abbrev answer : Answer
   answer = defined log (header_of log).lists (numbers_in chosen) (settings_in chosen)
 
-  module _ (accepted : answer.finding ≡ none) (long : definition_length ≤ length buf) (room : told_length ≤ length told) where
+  module _ (accepted : answer.finding ≡ None) (long : definition_length ≤ length buf) (room : told_length ≤ length told) where
     lent_definition : (define_of log chosen buf told).lent ≡ with_definition answer.definition buf
     unfolding define_of defined_by if_room judged_reply defined_reply
     lent_definition = simp (is, le-leb definition_length (length buf) long, le-leb told_length (length told) room, accepted)

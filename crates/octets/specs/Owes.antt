@@ -9,6 +9,7 @@ Put32Owes buf at v after = after ≡ sets buf at (le32 v)
 abbrev pub Put64Owes : (buf : List ℕ) → (at v : ℕ) → (after : List ℕ) → Type 0
 Put64Owes buf at v after = after ≡ sets buf at (le64 v)
 
+-- put_values, of values of four bytes and of eight
 abbrev pub PutValuesOwes : (buf : List ℕ) → (at : ℕ) → (values after : List ℕ) → Type 0
 PutValuesOwes buf at values after = after ≡ sets buf at (words values)
 

@@ -8,6 +8,7 @@ ghost use Rattle.std.proofs.lemmas.List.Edits.{sets};
 ghost use Rattle.octets.specs.Bytes.{le32, le64, num32, num64, nums};
 ghost use Rattle.octets.specs.Widths.{length_le32, length_le64};
 
+// Each width by itself: the wrong programs of the four (third_byte_twice, halves_overlap, first_byte_for_second, low_half_for_high) say other things of each.
 #[tactic(auto, using(crate::proofs::Stores::written, crate::proofs::Stores::le32_is))]
 pub fn put32(buf: &mut [u8], at: usize, v: u32)
     requires { at + 4 ≤ length buf.old }

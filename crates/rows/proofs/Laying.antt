@@ -113,7 +113,9 @@ module _ (d : Definition) (s out₀ : List ℕ) (w₀ : Walk) where
             record {
               done = l.done ++ (one ∷ []);
               many = length-append l.done (one ∷ []) ∙ ap (λ k. k + 1) l.many;
-              long = ap length bytes ∙ length-append (joined l.done) one ∙ ap₂ ◌+◌ l.long (length_row_of d (called d s w) ∙ sym long) ∙ at_more count size;
+              long =
+                  ap length bytes ∙ length-append (joined l.done) one ∙ ap₂ ◌+◌ l.long (length_row_of d (called d s w) ∙ sym long)
+                  ∙ at_more count size;
               wrote = then_put out₀ 0 (joined l.done) one l.wrote (put ∙ ap (sets out (count * size)) row_is) (omega (arith, l.long)) ∙ ap (sets out₀ 0) (sym bytes);
               rest =
                   l.rest ∙ ap (before l.done) on

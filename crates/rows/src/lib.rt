@@ -14,6 +14,7 @@ use plan::Definition;
 use section::{Answer, Refusal, Walk};
 
 // What a row says of a frame before its values: its letter, iteration, place and time. What a frame does not have is 0.
+// Numbers, and not an enum, since a row is bytes of a layout that C reads (`row_bytes`).
 #[derive(Clone, Copy)]
 pub struct Heading {
     pub letter: u32,

@@ -14,7 +14,7 @@ use history::History;
 use reader::Kind;
 use section::{Ending, Tally, Walk};
 
-// A frame's letter, or 0 for none.
+// A frame's letter, or 0 for none. Kinds and endings are numbers here since C keeps a walk as bytes of this layout (`state_bytes`).
 #[tactic(auto, unfolding(crate::specs::State::mark_code))]
 fn mark_code(mark: Mark) -> u32
     ensures { result ≡ mark_code mark }
