@@ -1,7 +1,7 @@
 // The words of a case: numbers, and the encodings and predictors of fields.
 ghost use Rattle.std.specs.Prelude.{◌≤◌, IfSome};
 
-// Up to 62 codes, of encodings or of predictors, 0 behind the last.
+// Up to 62 codes, of encodings or of predictors, 0 behind the last: an array with its count, as definitions and `read_fields` take it.
 #[derive(Clone, Copy)]
 struct Codes {
     n: usize,

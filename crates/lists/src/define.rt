@@ -3,10 +3,8 @@ use crate::{LONGEST, show};
 use plan::{Numbers, Settings};
 use std::io;
 use std::io::Write;
-use words::escapes;
-use words::interval;
-use words::three;
 use words::three::behind_three;
+use words::{escapes, interval, three};
 
 #[derive(Clone, Copy)]
 struct Asked<'a> {

@@ -5,7 +5,7 @@ use plan::{Definition, FrameInterval, Main, Numbers, Slow, Sort};
 use std::io;
 use std::io::Write;
 
-// Only refusal 3 has a round beside its place.
+// Only refusal 3 has a round beside its place. Crate session prints the same words as a line: a crate for both would be no plainer.
 pub fn refusal(out: &mut impl Write, why: Refusal) -> io::Result<()> {
     let paper = why.paper();
     write!(out, "refused {} {}", paper.number, paper.place)?;

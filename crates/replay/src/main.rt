@@ -14,6 +14,7 @@ const LONGEST: usize = 8192;
 
 // What stands of the logs behind it: what the last line `lists` says, the first bytes of each and its header numbers, and what the last line `set`
 // does, its settings.
+// The buffer has its length beside it: `unescape` refuses what has no room there, and a Vec would have room.
 #[derive(Drop)]
 struct Common {
     log: [u8; LONGEST],

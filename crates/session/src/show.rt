@@ -27,7 +27,11 @@ fn main_frame(
     d: Definition,
     values: &[u32],
 ) -> io::Result<()> {
-    write!(out, "{letter} {} {} {}", frame.at, frame.iteration, frame.time)?;
+    write!(
+        out,
+        "{letter} {} {} {}",
+        frame.at, frame.iteration, frame.time
+    )?;
     fields(out, values, &d.main.signs, d.main.fields())
 }
 

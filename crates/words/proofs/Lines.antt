@@ -1,5 +1,6 @@
 -- The first line of a text, and calls with it and the others.
-use Rattle.std.proofs.Common.{ℕ, suc, ◌+◌, ◌<◌, not, true, false, List, [], ◌∷◌, ◌≡◌, refl, sym, ap, subst, length, take, drop, arith, Result, Ok, IsErr, eqb, cond, inl, inr}
+use Rattle.std.proofs.Common.{ℕ, suc, ◌+◌, ◌<◌, not, true, false, List, [], ◌∷◌, ◌≡◌, refl, sym, ap, subst, length, take, drop, arith}
+use Rattle.std.proofs.Common.{Result, Ok, IsErr, eqb, cond, inl, inr}
 use Rattle.digits.specs.Digits.{before}
 use Rattle.words.specs.Lines.{in_front, lines, Told}
 
@@ -17,7 +18,9 @@ unfolding before lines
 lines_first [] h = absurd (omega arith)
 lines_first (b ∷ s) h =
     let more : 1 + before 10 s ≡ suc (before 10 s) = omega arith in
-    elim (eqb b 10) as (λ q. cond q ([] ∷ lines s) (in_front b (lines s)) ≡ take (cond (not q) (1 + before 10 s) 0) (b ∷ s) ∷ lines (drop (cond (not q) (1 + before 10 s) 0) s))
+    elim (eqb b 10)
+    as (λ q. cond q ([] ∷ lines s) (in_front b (lines s))
+    ≡ take (cond (not q) (1 + before 10 s) 0) (b ∷ s) ∷ lines (drop (cond (not q) (1 + before 10 s) 0) s))
     [ true ↦ refl | false ↦ rw more (grown b s (lines_first s)) ]
 
 module _ {F E : Type 0} (called : F → List ℕ → Result Unit E → F → Type 0) where

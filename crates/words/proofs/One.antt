@@ -7,7 +7,8 @@ use Rattle.std.specs.Prelude.{Option}
 use Rattle.plan.proofs.One.{one_answer}
 use Rattle.plan.specs.declared.FrameInterval.{FrameInterval}
 use Rattle.plan.specs.declared.Numbers.{Numbers}
-use Rattle.words.specs.Owes.{SplitOwes, FirstOwes, BehindOwes, IsHeadingOwes, HexOwes, BytesOwes, UnescapeOwes, WordOwes, NumbersOwes, IntervalOwes, BehindThreeOwes}
+use Rattle.words.specs.Owes.{SplitOwes, FirstOwes, BehindOwes, IsHeadingOwes, HexOwes, BytesOwes, UnescapeOwes, WordOwes}
+use Rattle.words.specs.Owes.{NumbersOwes, IntervalOwes, BehindThreeOwes}
 
 pub split_one : (s : List ℕ) (b : ℕ) {r t behind other : List ℕ} → SplitOwes s b r behind → SplitOwes s b t other → (r ≡ t) × (behind ≡ other)
 split_one s b p q = (one_answer p.0 q.0, one_answer p.1 q.1)
@@ -37,7 +38,8 @@ behind_three_one s = one_answer
 one_answer_put : {A B : Type 0} {x : A × B} {r t : A} {after other : B} → (r, after) ≡ x → (t, other) ≡ x → (r ≡ t) × (after ≡ other)
 one_answer_put p q = (ap (λ x. x.0) (one_answer p q), ap (λ x. x.1) (one_answer p q))
 
-pub bytes_one : (text out : List ℕ) {r t : Option ℕ} {after other : List ℕ} → BytesOwes text out r after → BytesOwes text out t other → (r ≡ t) × (after ≡ other)
+pub bytes_one : (text out : List ℕ) {r t : Option ℕ} {after other : List ℕ}
+    → BytesOwes text out r after → BytesOwes text out t other → (r ≡ t) × (after ≡ other)
 bytes_one text out = one_answer_put
 
 pub unescape_one : (text out : List ℕ) {r t : Option ℕ} {after other : List ℕ}

@@ -27,12 +27,12 @@ more_one n b (Some bytes) =
     ap Some e
 
 pub more_end : (n : ℕ) (s : List ℕ) → length s ≡ 0 → more n (stopped s) ≡ Some n
-unfolding more stopped
+unfolding more
 more_end n [] h = ap Some (add-zero n)
 more_end n (b ∷ s) h = absurd (omega arith)
 
 pub more_wrong : (n : ℕ) (s : List ℕ) → 0 < length s → more n (stopped s) ≡ None
-unfolding more stopped
+unfolding more
 more_wrong n [] h = absurd (omega arith)
 more_wrong n (b ∷ s) h = refl
 
@@ -75,7 +75,6 @@ module _ {o p : Option (List ℕ)} {there out : List ℕ} {n : ℕ} (laid : Laid
       }
 
   pub laid_stopped : (s : List ℕ) → p ≡ stopped s → out ≡ (put_of o there).1
-  unfolding stopped
   laid_stopped [] e = ap (λ o. sets out n (bytes_in o)) (sym e) ∙ laid.is
   laid_stopped (b ∷ s) e = absurd (none-some _ (sym e ∙ laid.right))
 

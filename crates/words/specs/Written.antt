@@ -33,7 +33,7 @@ fits None out = false
 fits (Some bytes) out = leb (length bytes) (length out)
 
 -- what a text writes that begins with no byte: nothing, or it is wrong
-unfoldable pub stopped : List ℕ → Option (List ℕ)
+abbrev pub stopped : List ℕ → Option (List ℕ)
 stopped [] = Some []
 stopped (b ∷ s) = None
 

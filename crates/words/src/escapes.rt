@@ -25,7 +25,7 @@ fn letter(b: u8) -> Option<u8>
 impl Writing for Escaped {
     ghost bytes = { bytes_of };
 
-    #[tactic(auto, unfolding(crate::specs::Escapes::bytes_of, crate::specs::Escapes::letter_of, crate::specs::Written::in_front, crate::specs::Written::stopped))]
+    #[tactic(auto, unfolding(crate::specs::Escapes::bytes_of, crate::specs::Escapes::letter_of, crate::specs::Written::in_front))]
     fn first(text: &[u8]) -> Option<(u8, &[u8])> {
         match text {
             [b'\\', b'x', high, low, rest @ ..] => Some((hex(*high, *low)?, rest)),

@@ -13,7 +13,7 @@ struct Pairs;
 impl Writing for Pairs {
     ghost bytes = { pairs };
 
-    #[tactic(auto, unfolding(crate::specs::Sections::pairs, crate::specs::Written::in_front, crate::specs::Written::stopped))]
+    #[tactic(auto, unfolding(crate::specs::Sections::pairs, crate::specs::Written::in_front))]
     fn first(text: &[u8]) -> Option<(u8, &[u8])> {
         match text {
             [high, low, rest @ ..] => Some((hex(*high, *low)?, rest)),

@@ -11,7 +11,7 @@ pub loop-d-init : goal.loop-d-init
 loop-d-init g c =
     record {
       callable = c.requires.callable;
-      turn = record { ready = ready_start _ _ c.requires.sound c.start-walk.ensures; same = ap (walked End _ _) c.start-walk.ensures }
+      turn = record { ready = ready_start _ _ c.requires.sound c.start-walk.ensures; same = ap (walked End _ _) c.start-walk.ensures };
     }
 
 pub step-called-requires : goal.step-called-requires
@@ -30,5 +30,5 @@ pub loop-d-preserved : goal.loop-d-preserved
 loop-d-preserved g c =
     record {
       callable = search of_calls;
-      turn = turn_again End _ _ c.loop-d.invariant.turn c.step-called.ensures (over_alone _ _ c.is_over.ensures) c.if-is_over.false
+      turn = turn_again End _ _ c.loop-d.invariant.turn c.step-called.ensures (over_alone _ _ c.is_over.ensures) c.if-is_over.false;
     }
