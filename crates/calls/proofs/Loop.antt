@@ -1,7 +1,7 @@
 -- How the code calls. A walk that has ended stays as it is. One that goes on looks in a loop: what is known before each look, how a look in vain keeps it,
 -- and that a look which says something is the call.
 use Prim.Native.Nat.{ℕ, ◌-◌, ◌<◌, ◌≤◌}
-use Rattle.std.specs.Prelude.{Option, Some, None}
+use Rattle.std.specs.Prelude.{Option, Some, None, is_none}
 use mathlib.Core.Bool.{Bool, true, false}
 use mathlib.Core.List.{List, []}
 use mathlib.Core.Path.{◌≡◌, refl, sym, ap, ◌∙◌}
@@ -81,8 +81,8 @@ vain_barren : (d : Definition) (s : List ℕ) (p : ℕ) {b : Bool} (x : Seen) �
     → Barren b s (place_after x (length s) p)
 unfolding vain place_after
 vain_barren d s p Nothing is e = cc
-vain_barren d s p {b} (Passed k) is e = let z : k.barren ≡ b = cc in rw (← z) (passed_barren (shape d) s p k is)
-vain_barren d s p {b} (Rejected j k) is e = let z : k.barren ≡ b = cc in rw (← z) (rejected_barren (shape d) s p j k is)
+vain_barren d s p {b} (Passed k) is e = let z : is_none k ≡ b = cc in rw (← z) (passed_barren (shape d) s p k is)
+vain_barren d s p {b} (Rejected j k) is e = let z : is_none k ≡ b = cc in rw (← z) (rejected_barren (shape d) s p j k is)
 vain_barren d s p (Cutoff k) is e = cc
 vain_barren d s p (Accepted f m) is e = cc
 

@@ -1,6 +1,6 @@
 -- How the code calls: a look in vain is one that ended in a search, and its flag, that the search found nothing, goes on to the next look and the next call.
 -- No part of the meaning: it is cited by contracts of inner functions, of which `step` is public for whole walks.
-use Rattle.std.specs.Prelude.{Bool, List, ◌≡◌, ℕ, Option, Some, None}
+use Rattle.std.specs.Prelude.{Bool, List, ◌≡◌, ℕ, Option, Some, None, is_none}
 use Rattle.plan.specs.declared.Definition.{Definition}
 use Rattle.extent.specs.declared.Seen.{Seen}
 use Rattle.extent.specs.declared.Seen.TheVariants.{Nothing, Passed, Rejected, Cutoff, Accepted}
@@ -12,8 +12,8 @@ use Rattle.calls.specs.Call.{called}
 
 unfoldable pub vain : Seen → Option Bool
 vain Nothing = None
-vain (Passed s) = Some s.barren
-vain (Rejected k s) = Some s.barren
+vain (Passed n) = Some (is_none n)
+vain (Rejected k n) = Some (is_none n)
 vain (Cutoff k) = None
 vain (Accepted f m) = None
 

@@ -29,7 +29,7 @@ fn in_vain(seen: Seen) -> Option<bool>
     ensures { result ≡ vain seen }
 {
     match seen {
-        Seen::Passed(skip) | Seen::Rejected(_, skip) => Some(skip.barren),
+        Seen::Passed(found) | Seen::Rejected(_, found) => Some(found.is_none()),
         Seen::Nothing | Seen::Cutoff(_) | Seen::Accepted(_, _) => None,
     }
 }

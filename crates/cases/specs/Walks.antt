@@ -17,8 +17,8 @@ use Rattle.section.specs.Answers.{Paper, Told, told}
 use Rattle.section.specs.Walk.{start}
 use Rattle.calls.specs.Owes.{CallOwes}
 use Rattle.walks.specs.declared.Counted.{Counted}
-use Rattle.walks.specs.declared.Sort.{Sort}
-use Rattle.walks.specs.declared.Sort.TheVariants.{Main, Slow}
+use Rattle.plan.specs.declared.Sort.{Sort}
+use Rattle.plan.specs.declared.Sort.TheVariants.{Main, Slow}
 use Rattle.walks.specs.Owes.{CountOwes, FillOwes, counts}
 use Rattle.cases.specs.Lists.{lists_a, with_slow}
 use Rattle.cases.specs.Sessions.{session, definition_in, paper, I, P, E, S, done, out_of_data, cut, end◌at◌main◌event◌slow◌tried◌rejected◌, section_a}

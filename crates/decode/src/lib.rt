@@ -12,7 +12,6 @@ pub mod tagged_variable;
 pub mod variable;
 
 // Encoding 9.
-#[tactic(auto, using(reader::proofs::Reading::on_nothing), unfolding(crate::specs::Variable::encoding9, reader::specs::Got::give, reader::specs::Place::read_at))]
 pub fn null(from: Cursor) -> Result<(u32, Cursor), Fault>
     ensures { NullOwes from result }
 {

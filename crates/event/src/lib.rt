@@ -75,7 +75,7 @@ fn close(s: &[u8], from: Cursor) -> Result<(Event, Cursor), Fault>
     spelt(b"End of log\0", s, from, end)
 }
 
-// The event behind a letter E: its type decides.
+// The event behind a letter E: its type decides, each in an arm of its own, as document 01 lists them (edit fourteen_with_one_number).
 pub fn read(s: &[u8], from: Cursor) -> Result<(Event, Cursor), Fault>
     ensures { ReadOwes s.now from result }
 {

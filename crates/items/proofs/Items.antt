@@ -23,9 +23,13 @@ use Rattle.items.specs.Items.{items, at, start_of, item_at, given, part}
 
 -- ## How many, and where
 
-pub items_count : (t : List ℕ) → (1 ≤ length (items t)) × (length (items t) ≤ length t + 1)
+pub items_some : (t : List ℕ) → 1 ≤ length (items t)
 unfolding items
-items_count t = omega (arith, length-slice_split (λ b. eqb b 44) t, count_by-le-length (λ b. eqb b 44) t)
+items_some t = omega (arith, length-slice_split (λ b. eqb b 44) t)
+
+pub items_count_le : (t : List ℕ) → length (items t) ≤ length t + 1
+unfolding items
+items_count_le t = omega (arith, length-slice_split (λ b. eqb b 44) t, count_by-le-length (λ b. eqb b 44) t)
 
 pub start_first : (l : List (List ℕ)) → 0 ≡ start_of l 0
 unfolding start_of

@@ -64,7 +64,7 @@ fn joined(front: Result<Front, Fault>, fields: [u32; 62]) -> Result<(Raw, Cursor
     Ok((raw, front.behind))
 }
 
-// The first n fields of as many as a frame can have, behind the numbers before them.
+// The first n fields of as many as a frame can have, behind the numbers before them. A list stands with its length in a definition's rooms: no heap.
 #[tactic(auto, using(crate::proofs::Frames::all_rooms))]
 fn fields_into(
     n: usize,
@@ -186,7 +186,7 @@ pub fn main_fields(
     joined(front, fields)
 }
 
-// The frames of a definition, as values.
+// The frames of a definition, as values: each names its own list and reader, and a function over both would be no shorter.
 #[tactic(auto, using(crate::proofs::Frames::value_is, crate::proofs::Frames::counted), unfolding(plan::specs::Plan::shape))]
 pub fn intra(d: Definition, s: &[u8], from: Cursor) -> Result<(Raw, Cursor), Fault>
     ensures { IntraOwes d s.now from result }

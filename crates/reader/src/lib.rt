@@ -70,7 +70,7 @@ impl Group {
     }
 }
 
-// The byte at a place, and the place behind it; or nothing at the end.
+// The byte at a place, and the place behind it; or nothing at the end. No `get`: the edit byte_beyond_the_end asks behind the last byte.
 #[tactic(auto, using(crate::proofs::Bytes::byte_here, crate::proofs::Bytes::byte_end))]
 pub fn read_u8(s: &[u8], from: Cursor) -> Option<(u8, Cursor)>
     ensures { ReadU8Owes s.now from result }

@@ -1,4 +1,5 @@
 // Fields read by their records: one thin entry over a lent slice, the Rust's read_field_values in frame/mod.rs, and a by-value door to it.
+// The records are taken apart into the two lists that the reader of crate frame goes by.
 #![tactic(auto)]
 
 ghost use Rattle.records.specs.Owes.{ReadFieldValuesOwes, ReadRecordsOwes};

@@ -2,7 +2,7 @@
 use Prim.Native.Nat.{ℕ, ◌+◌, ◌≤◌}
 use mathlib.Core.Bool.{true}
 use mathlib.Core.List.{List}
-use mathlib.Core.Option.{none}
+use Rattle.std.specs.Prelude.{None}
 use mathlib.Core.Path.{◌≡◌, refl, ap, ◌∙◌}
 use native.Mathlib.Omega.{arith}
 use lib.ListN.{length, take, drop, replicate, length-replicate}
@@ -76,12 +76,12 @@ module _ (d : Definition) {room : ℕ} (rooms : Rooms d room) where
   unfolding fields_with answer_with hands_out intra_frame inter_frame slow_values
   with_full (found.Event e) p x y = refl
   with_full found.Intra p x y =
-      front_full (fields d.main) (values_of (intra_fields (shape d) (rules d)) (values_in (past y).last) none x.fields) rooms.main
+      front_full (fields d.main) (values_of (intra_fields (shape d) (rules d)) (values_in (past y).last) None x.fields) rooms.main
   with_full found.Inter p x y =
       front_full (fields d.main)
       (values_of (inter_fields (shape d) (rules d) (past y)) (values_in (past y).last) (values_in (past y).older) x.fields) rooms.main
   with_full found.Slow p x y =
-      front_full d.slow.n (values_of (slow_fields (shape d) (rules d)) none none x.fields) (omega (arith, rooms.slow))
+      front_full d.slow.n (values_of (slow_fields (shape d) (rules d)) None None x.fields) (omega (arith, rooms.slow))
 
   after_full : (e : Seen) (p : ℕ) (x : Raw) (y : History) → length (fields_after d e x y) ≡ hands_out d (answer_after d e p x y)
   unfolding fields_after answer_after hands_out

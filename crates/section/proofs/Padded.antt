@@ -1,7 +1,7 @@
 -- The rooms of a frame's values: 0 behind the last field, so that they are the fields laid over empty rooms.
 use Prim.Native.Nat.{ℕ, zero, suc, ◌+◌, ◌<◌, ◌≤◌}
 use mathlib.Core.List.{List, [], ◌∷◌, ◌++◌}
-use mathlib.Core.Option.{Option, none}
+use Rattle.std.specs.Prelude.{Option, None}
 use mathlib.Core.Path.{◌≡◌, refl, sym, ap, ◌∙◌}
 use native.Mathlib.Omega.{arith}
 use lib.ListN.{length, take, drop, set, replicate, length-take, length-append, length-replicate, take-append-drop}
@@ -66,7 +66,7 @@ module _ (d : Definition) (x : Raw) where
       → m.values ≡ sets (replicate 62 0) 0 (take (fields d.main) m.values)
   unfolding intra_frame intra_fields rules
   intra_padded last e h =
-      rw (e none) (cut_values (intra_fields (shape d) (rules d)) _ none x.fields
+      rw (e None) (cut_values (intra_fields (shape d) (rules d)) _ None x.fields
       (fields d.main) (front (fields d.main) d.main.intra_predictors) h)
 
   pub inter_padded : (last older : MainFrame) {m : MainFrame} → frame.InterOwes d last older x m → fields d.main ≤ 62
@@ -78,4 +78,4 @@ module _ (d : Definition) (x : Raw) where
   pub slow_padded : {vs : List ℕ} → frame.SlowOwes d x vs → d.slow.n ≤ 16 → vs ≡ sets (replicate 62 0) 0 (take d.slow.n vs)
   unfolding slow_values slow_fields rules
   slow_padded e h =
-      rw e (cut_values (slow_fields (shape d) (rules d)) none none x.fields d.slow.n (front d.slow.n d.slow.predictors) (omega arith))
+      rw e (cut_values (slow_fields (shape d) (rules d)) None None x.fields d.slow.n (front d.slow.n d.slow.predictors) (omega arith))

@@ -1,6 +1,6 @@
 -- The numbers tell answers apart, and verdicts: each can be read back from what it says in them.
 use Prim.Native.Nat.{ℕ}
-use Rattle.std.specs.Prelude.{None, Some, Ok, Err}
+use Rattle.std.specs.Prelude.{None, Some, Ok, Err, unwrap_or}
 use mathlib.Core.Bool.{cond}
 use mathlib.Core.List.{List, [], ◌∷◌}
 use mathlib.Core.Path.{◌≡◌, refl, ap}
@@ -9,8 +9,6 @@ use lib.ListN.{get_or}
 use Rattle.plan.proofs.Papers.{read_back}
 use Rattle.reader.specs.declared.Kind.{Kind}
 use Rattle.reader.specs.declared.Kind.TheVariants as kind
-use Rattle.reader.specs.declared.Letter.{Letter}
-use Rattle.reader.specs.declared.Letter.TheVariants.{Is, Other}
 use Rattle.reader.specs.Search.{byte_of, letter_of}
 use Rattle.section.specs.declared.Answer.{Answer}
 use Rattle.section.specs.declared.Answer.TheVariants.{Passed, Rejected, Event, Intra, Inter, Slow, Over, Refused}
@@ -22,15 +20,11 @@ use Rattle.section.specs.Answers.{Paper, paper_of, Finding, found}
 
 -- ## Kinds
 
-kind_of : Letter → Kind
-kind_of (Is k) = k
-kind_of Other = kind.Event
-
 abbrev spelt : ℕ → Kind
-spelt b = kind_of (letter_of b)
+spelt b = unwrap_or (letter_of b) kind.Event
 
 spelt_back : (k : Kind) → spelt (byte_of k) ≡ k
-unfolding kind_of letter_of
+unfolding letter_of
 spelt_back kind.Event = refl
 spelt_back kind.Intra = refl
 spelt_back kind.Inter = refl

@@ -1,6 +1,6 @@
 -- What a look does to a walk's tally: the place, the ending and the counts (document 01, "The walk").
 -- No predictor, no header number and no history has a part in it.
-use Rattle.std.specs.Prelude.{ℕ, ◌+◌, cond, List, eqb, get_or, set}
+use Rattle.std.specs.Prelude.{ℕ, ◌+◌, cond, List, eqb, get_or, set, unwrap_or}
 use Rattle.extent.specs.declared.Found.{Found}
 use Rattle.extent.specs.declared.Found.TheVariants.{Event, Intra, Inter, Slow}
 use Rattle.extent.specs.declared.Seen.{Seen}
@@ -10,11 +10,11 @@ use Rattle.section.specs.declared.Ending.TheVariants.{Going, Done, Out, Cut}
 use Rattle.section.specs.declared.Tally.{Tally}
 
 -- The walk's place. `length` is the section's.
--- A search starts behind the first byte; a cut moves to the section's end; an accepted frame is left behind.
+-- A search starts behind the first byte, and stays there if it finds nothing; a cut moves to the section's end; an accepted frame is left behind.
 unfoldable pub place_after : Seen → (length place : ℕ) → ℕ
 place_after Nothing z p = p
-place_after (Passed s) z p = p + 1 + s.by
-place_after (Rejected k s) z p = p + 1 + s.by
+place_after (Passed n) z p = p + 1 + unwrap_or n 0
+place_after (Rejected k n) z p = p + 1 + unwrap_or n 0
 place_after (Cutoff k) z p = z
 place_after (Accepted f m) z p = p + 1 + m
 

@@ -56,12 +56,12 @@ impl Tally {
                 ..self
             },
             Seen::Passed(skip) => Tally {
-                place: self.place + 1 + skip.by,
+                place: self.place + 1 + skip.unwrap_or(0),
                 ending: Ending::Going,
                 ..self
             },
             Seen::Rejected(_, skip) => Tally {
-                place: self.place + 1 + skip.by,
+                place: self.place + 1 + skip.unwrap_or(0),
                 ending: Ending::Going,
                 counts: one_more(counts, 3),
                 trials: self.trials + 1,

@@ -75,6 +75,7 @@ impl Light {
 
 impl Settled {
     // With the values: the whole walk. Its fields go to the lent buffer.
+    #[tactic(auto, using(crate::proofs::Fields::hands_out_rooms))]
     pub fn hand_out(self, d: Definition, values: &Values, out: &mut [u32]) -> Looked
         requires { Rooms d 62 }
         ensures { HandOutOwes d self values.now out.old result out.new }

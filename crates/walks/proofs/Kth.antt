@@ -33,8 +33,8 @@ use Rattle.calls.specs.Call.{after, says, is_said, called}
 use Rattle.calls.proofs.Ticks.{tick_moves, tick_end}
 use Rattle.calls.proofs.Until.{after_suc, until_by}
 use Rattle.walks.specs.declared.Goal.TheVariants.{Frame}
-use Rattle.walks.specs.declared.Sort.{Sort}
-use Rattle.walks.specs.declared.Sort.TheVariants as sort
+use Rattle.plan.specs.declared.Sort.{Sort}
+use Rattle.plan.specs.declared.Sort.TheVariants as sort
 use Rattle.walks.specs.Owes.{FillOwes}
 use Rattle.walks.specs.Walks.{counted_at, is_reached, is_last, after_calls, walked, filled_of}
 use Rattle.walks.proofs.Walks.{walk_first, walked_is_last}

@@ -9,7 +9,7 @@ use Rattle.section.specs.declared.Walk.{Walk}
 use Rattle.section.proofs.Paper.{paper_injective}
 use Rattle.section.proofs.One.{told_one}
 use Rattle.walks.specs.declared.Counted.{Counted}
-use Rattle.walks.specs.declared.Sort.{Sort}
+use Rattle.plan.specs.declared.Sort.{Sort}
 use Rattle.walks.specs.Owes.{ThroughOwes, CountOwes, FillOwes, counts}
 use Rattle.walks.specs.Walks.{Counts}
 

@@ -17,7 +17,7 @@ use Rattle.section.specs.Walk.{start}
 use Rattle.section.proofs.Checks.{check_is}
 use Rattle.section.proofs.Filling.{sets_none}
 use Rattle.walks.specs.declared.Goal.TheVariants.{End, Frame}
-use Rattle.walks.specs.declared.Sort.{Sort}
+use Rattle.plan.specs.declared.Sort.{Sort}
 use Rattle.walks.specs.Owes.{ThroughOwes, CountOwes, FillOwes}
 use Rattle.walks.specs.Walks.{counts_of, walked, checked_state, through_of, filled_of}
 

@@ -6,7 +6,7 @@ use Rattle.section.specs.declared.Walk.{Walk}
 use Rattle.section.specs.Answers.{paper_of, told}
 use Rattle.section.specs.Walk.{start}
 use Rattle.walks.specs.declared.Counted.{Counted}
-use Rattle.walks.specs.declared.Sort.{Sort}
+use Rattle.plan.specs.declared.Sort.{Sort}
 use Rattle.walks.specs.Walks.{Counts, counts_of, through_of, filled_of}
 
 abbrev pub ThroughOwes : Definition → Walk → List ℕ → Looked → Type 0

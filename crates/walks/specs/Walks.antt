@@ -8,8 +8,8 @@ use Rattle.section.specs.Answers.{Paper, Told, checked_first, is_over}
 use Rattle.section.specs.Refusals.{Check, pass, admitted, checked}
 use Rattle.section.specs.Walk.{Outcome, start}
 use Rattle.calls.specs.Call.{after, until, left, called}
-use Rattle.walks.specs.declared.Sort.{Sort}
-use Rattle.walks.specs.declared.Sort.TheVariants as sort
+use Rattle.plan.specs.declared.Sort.{Sort}
+use Rattle.plan.specs.declared.Sort.TheVariants as sort
 use Rattle.walks.specs.declared.Goal.{Goal}
 use Rattle.walks.specs.declared.Goal.TheVariants.{End, Frame}
 

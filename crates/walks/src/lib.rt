@@ -9,17 +9,10 @@ ghost use Rattle.walks.specs.Owes.{ThroughOwes, CountOwes, FillOwes};
 ghost use Rattle.walks.specs.Walks.{counted_at, is_reached, walked};
 
 use calls::quick::step_in;
-use plan::Definition;
+use plan::{Definition, Sort};
 pub use section::fields_of;
 use section::quick::Settled;
 use section::{Answer, Looked, Refusal, Tally, Walk};
-
-// The frames that have values.
-#[derive(Clone, Copy)]
-pub enum Sort {
-    Main,
-    Slow,
-}
 
 // Where a walk is to stop: at its end, or at a frame of a sort, counted from 0.
 #[derive(Clone, Copy)]

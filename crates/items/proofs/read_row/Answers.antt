@@ -9,7 +9,7 @@ use Rattle.std.proofs.lemmas.Iterator.Consumers.{YieldsList-at, YieldsList-turn,
 use Rattle.std.proofs.lemmas.Iterator.Splits.{YieldsList-from_slice_split}
 use Rattle.std.specs.List.{slice_split}
 use Rattle.items.specs.Items.{items, at}
-use Rattle.items.proofs.Items.{items_count, nth_item}
+use Rattle.items.proofs.Items.{items_count_le, nth_item}
 use Rattle.items.proofs.Rows.{filled_first, filled_on, filled_full, filled_end}
 use Rattle.items.proofs.read_row.Goals as goal
 use Rattle.items.proofs.read_row.Goals.{then-count-lt64, else-count-lt64}
@@ -25,7 +25,7 @@ overflow_add-count c =
     c.split-item-items.ensures.closure
     (λ x r q k. search (rules, tests))))
     c.loop-item.yielded _ c.loop-item.yielded_by _ _ c.in-Some.item c.in-Some.is c.next.ensures.steps in
-    omega (arith, c.well_formed, t.0, items_count c.args.text.now)
+    omega (arith, c.well_formed, t.0, items_count_le c.args.text.now)
 
 pub loop-item-preserved : goal.loop-item-preserved
 unfolding items
