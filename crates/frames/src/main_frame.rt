@@ -48,7 +48,10 @@ pub fn case(out: &mut impl Write, is_inter: bool, rest: &[u8]) -> io::Result<boo
     let s = case.section;
     let start = Cursor { at: 0 };
     let frame = if is_inter {
-        raws::inter(d, s, start).map(|(raw, behind)| (frame::inter(d, case.last, case.older, raw), behind))
+        raws::inter(d, s, start).map(|(raw, behind)| (
+            frame::inter(d, case.last, case.older, raw),
+            behind,
+        ))
     } else {
         raws::intra(d, s, start).map(|(raw, behind)| (frame::intra(d, case.last, raw), behind))
     };
