@@ -31,6 +31,7 @@ pub enum Refusal {
 }
 
 // A refusal in the rules' own numbers. Only refusal 3 has a round; its place is the list.
+// Stays numbers: PaperOwes says document 01's, and C is told them.
 #[derive(Clone, Copy)]
 pub struct Paper {
     pub number: u8,
@@ -39,6 +40,7 @@ pub struct Paper {
 }
 
 // The verdict stands beside the definition: a refused one has no fields.
+// Stays a struct: edit refused_with_fields says a wrong thing of the definition of refused lists.
 #[derive(Clone, Copy)]
 pub struct Defined {
     pub verdict: Result<(), Refusal>,

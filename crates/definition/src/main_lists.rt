@@ -78,13 +78,7 @@ fn motor_0(names: Row, n: usize) -> usize
     requires { n ≤ 64 }
     ensures { ForNames names (λ l. result ≡ motor_from l 0 (n - 2)) }
 {
-    let fields = n.saturating_sub(2);
-    for i in 0..fields {
-        if names.codes[i + 2] == MOTOR_0 {
-            return i;
-        }
-    }
-    fields
+    digits::until(&names.codes[n.min(2)..n], MOTOR_0)
 }
 
 fn fields(rows: Rows, n: usize) -> Main

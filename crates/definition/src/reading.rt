@@ -9,12 +9,14 @@ ghost use Rattle.definition.specs.Rows.{rows_of, cut_to, ForMain};
 use crate::Rows;
 use items::{MainLists, Of, Row, Stretch};
 
+#[tactic(auto, using(crate::proofs::Readings::row_read))]
 fn read(text: &[u8], list: Option<Stretch>, of: Of) -> Row
     ensures { result ≡ row_of of (items (part text.now list)) }
 {
     items::read_row(items::part(text, list), of)
 }
 
+#[tactic(auto, unfolding(crate::specs::Defined::main_items, crate::specs::Rows::rows_of))]
 pub(crate) fn read_all(text: &[u8], lists: MainLists) -> Rows
     ensures { result ≡ rows_of (main_items text.now lists) }
 {
@@ -29,6 +31,7 @@ pub(crate) fn read_all(text: &[u8], lists: MainLists) -> Rows
 }
 
 // The smallest item count.
+#[tactic(auto, using(crate::proofs::Readings::rounds_of))]
 pub(crate) fn smallest(rows: Rows) -> usize
     ensures { ForMain rows (λ l. result ≡ rounds l) }
 {

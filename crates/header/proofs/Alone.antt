@@ -8,8 +8,8 @@ use lib.Dec.{eqb}
 use lib.ListN.{length, take, drop, length-drop, take-append-drop}
 use lib.Seq.{length-take-le, take-nil, take-append-le, drop-append-le}
 use borrow.Author.Tests.{le-leb}
+use Rattle.std.specs.Prelude.{Option, Some, None}
 use Rattle.items.specs.declared.Stretch.{Stretch}
-use Rattle.items.specs.declared.Stretch.TheVariants.{At, Absent}
 use Rattle.items.specs.Items.{given, part}
 use Rattle.items.specs.Text.{ascii}
 use Rattle.header.specs.Header.{last_from, value_of, header_of}
@@ -70,7 +70,7 @@ headers_alone text =
 -- where a value stands is told by the header alone
 pub value_alone : (text prefix : List ℕ) → value_of (alone text) prefix ≡ value_of text prefix
 unfolding value_of
-value_alone text prefix = ap (λ ls. last_from prefix 0 ls Absent) (headers_alone text)
+value_alone text prefix = ap (λ ls. last_from prefix 0 ls None) (headers_alone text)
 
 -- and so are its bytes
 bytes_take : (text : List ℕ) (n a e : ℕ) → a ≤ e → e ≤ n → n ≤ length text → take (e - a) (drop a (take n text)) ≡ take (e - a) (drop a text)
@@ -82,15 +82,16 @@ bytes_take text n a e h i j =
     ∙ ap (take (e - a)) (drop-append-le a (take n text) (drop n text) (omega arith))
     ∙ take-append-le (e - a) (drop a (take n text)) (drop n text) (omega arith))
 
-part_take : (text : List ℕ) (n a e : ℕ) → a ≤ e → e ≤ n → n ≤ length text → part (take n text) (At a e) ≡ part text (At a e)
+part_take : (text : List ℕ) (n : ℕ) (s : Stretch) → s.start ≤ s.end → s.end ≤ n → n ≤ length text → part (take n text) (Some s) ≡ part text (Some s)
 unfolding part given
-part_take text n a e h i j =
+part_take text n s h i j =
     let size : length (take n text) ≡ n = length-take-le n text j in
-    rw (le-leb a e h, le-leb e (length (take n text)) (omega arith), le-leb e (length text) (omega arith)) (bytes_take text n a e h i j)
+    rw (le-leb s.start s.end h, le-leb s.end (length (take n text)) (omega arith), le-leb s.end (length text) (omega arith))
+    (bytes_take text n s.start s.end h i j)
 
-pub part_alone : (text prefix : List ℕ) (s : Stretch) → value_of text prefix ≡ s → part (alone text) s ≡ part text s
+pub part_alone : (text prefix : List ℕ) (s : Option Stretch) → value_of text prefix ≡ s → part (alone text) s ≡ part text s
 unfolding part
-part_alone text prefix Absent q = refl
-part_alone text prefix (At a e) q =
-    let within = value_within text prefix a e q in
-    part_take text (header_of text).section a e within.0 within.1 (section_within text)
+part_alone text prefix None q = refl
+part_alone text prefix (Some s) q =
+    let within = value_within text prefix s q in
+    part_take text (header_of text).section s within.0 within.1 (section_within text)

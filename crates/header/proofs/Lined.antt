@@ -9,8 +9,9 @@ use lib.Dec.{eqb}
 use lib.ListN.{length, take, drop, get_or, length-take}
 use lib.Seq.{take-nil, take-take, get_or-take, drop-drop}
 use borrow.Author.Tests.{le-leb}
+use Rattle.std.specs.Prelude.{Option, Some, None}
+use Rattle.std.proofs.lemmas.Option.{none-some}
 use Rattle.items.specs.declared.Stretch.{Stretch}
-use Rattle.items.specs.declared.Stretch.TheVariants.{At, Absent}
 use Rattle.items.specs.Items.{given, part}
 use Rattle.items.specs.Text.{ascii}
 use Rattle.header.specs.Header.{newer, last_from, value_of, header_of}
@@ -18,21 +19,21 @@ use Rattle.header.specs.Lines.{lines, bare, begins, headers, total, onto}
 use Rattle.header.proofs.Alone.{headers_first}
 use Rattle.header.proofs.Within.{section_within, value_within}
 
--- of some lines that start at p, line k is the last that begins with the prefix, and its rest stands from a to e
-pub record Lined (prefix : List ℕ) (p : ℕ) (ls : List (List ℕ)) (a e : ℕ) : Type 0 where
+-- of some lines that start at p, line k is the last that begins with the prefix, and s is its rest
+pub record Lined (prefix : List ℕ) (p : ℕ) (ls : List (List ℕ)) (s : Stretch) : Type 0 where
   pub k : ℕ
   pub there : k < length ls
   pub begun : begins prefix (bare (get_or ls k [])) ≡ true
   pub last : (j : ℕ) → k < j → j < length ls → begins prefix (bare (get_or ls j [])) ≡ false
-  pub from : a ≡ p + total (take k ls) + length prefix
-  pub till : e ≡ p + total (take k ls) + length (bare (get_or ls k []))
+  pub from : s.start ≡ p + total (take k ls) + length prefix
+  pub till : s.end ≡ p + total (take k ls) + length (bare (get_or ls k []))
 
-record Kept (prefix : List ℕ) (ls : List (List ℕ)) (earlier : Stretch) (a e : ℕ) : Type 0 where
-  is : earlier ≡ At a e
+record Kept (prefix : List ℕ) (ls : List (List ℕ)) (earlier : Option Stretch) (s : Stretch) : Type 0 where
+  is : earlier ≡ Some s
   none : (j : ℕ) → j < length ls → begins prefix (bare (get_or ls j [])) ≡ false
 
-module _ (prefix : List ℕ) (p : ℕ) (l : List ℕ) (ls : List (List ℕ)) (a e : ℕ) where
-  later : Lined prefix (p + length l) ls a e → Lined prefix p (l ∷ ls) a e
+module _ (prefix : List ℕ) (p : ℕ) (l : List ℕ) (ls : List (List ℕ)) (s : Stretch) where
+  later : Lined prefix (p + length l) ls s → Lined prefix p (l ∷ ls) s
   unfolding total
   later line =
       record {
@@ -45,14 +46,16 @@ module _ (prefix : List ℕ) (p : ℕ) (l : List ℕ) (ls : List (List ℕ)) (a 
         till = omega (arith, line.till);
       }
 
-  here : (earlier : Stretch) → Kept prefix ls (newer prefix p l earlier) a e → Lined prefix p (l ∷ ls) a e ⊎ Kept prefix (l ∷ ls) earlier a e
+  here : (earlier : Option Stretch) → Kept prefix ls (newer prefix p l earlier) s → Lined prefix p (l ∷ ls) s ⊎ Kept prefix (l ∷ ls) earlier s
   unfolding newer total
   here earlier kept =
-      elim (begins prefix (bare l)) as (λ q. begins prefix (bare l) ≡ q → cond q (At (p + length prefix) (p + length (bare l))) earlier ≡ At a e
-      → Lined prefix p (l ∷ ls) a e ⊎ Kept prefix (l ∷ ls) earlier a e) [
-        | true ↦ λ b s.
-            let start : p + length prefix ≡ a = cc in
-            let end : p + length (bare l) ≡ e = cc in
+      elim (begins prefix (bare l)) as (λ q. begins prefix (bare l) ≡ q
+      → cond q (Some (record { start = p + length prefix; end = p + length (bare l) })) earlier ≡ Some s
+      → Lined prefix p (l ∷ ls) s ⊎ Kept prefix (l ∷ ls) earlier s) [
+        | true ↦ λ b here.
+            let same : record { start = p + length prefix; end = p + length (bare l) } ≡ s = cc in
+            let start : p + length prefix ≡ s.start = ap (λ t. t.start) same in
+            let end : p + length (bare l) ≡ s.end = ap (λ t. t.end) same in
             inl
             (record {
               k = 0;
@@ -63,34 +66,34 @@ module _ (prefix : List ℕ) (p : ℕ) (l : List ℕ) (ls : List (List ℕ)) (a 
               from = omega arith;
               till = omega arith;
             })
-        | false ↦ λ b s.
+        | false ↦ λ b kept_is.
             inr
             (record {
-              is = s;
+              is = kept_is;
               none = λ j. elim j as (λ i. i < suc (length ls) → begins prefix (bare (get_or (l ∷ ls) i [])) ≡ false)
                   [ zero ↦ λ h. b | suc i ↦ λ h. kept.none i (omega arith) ];
             })
       ]
       refl kept.is
 
-lined : (prefix : List ℕ) (p : ℕ) (ls : List (List ℕ)) (earlier : Stretch) (a e : ℕ) → last_from prefix p ls earlier ≡ At a e
-    → Lined prefix p ls a e ⊎ Kept prefix ls earlier a e
+lined : (prefix : List ℕ) (p : ℕ) (ls : List (List ℕ)) (earlier : Option Stretch) (s : Stretch) → last_from prefix p ls earlier ≡ Some s
+    → Lined prefix p ls s ⊎ Kept prefix ls earlier s
 unfolding last_from
-lined prefix p [] earlier a e q = inr (record { is = q; none = λ j h. absurd (omega arith) })
-lined prefix p (l ∷ ls) earlier a e q = by (lined prefix (p + length l) ls (newer prefix p l earlier) a e q)
+lined prefix p [] earlier s q = inr (record { is = q; none = λ j h. absurd (omega arith) })
+lined prefix p (l ∷ ls) earlier s q = by (lined prefix (p + length l) ls (newer prefix p l earlier) s q)
   where
-    by : Lined prefix (p + length l) ls a e ⊎ Kept prefix ls (newer prefix p l earlier) a e → Lined prefix p (l ∷ ls) a e ⊎ Kept prefix (l ∷ ls) earlier a e
-    by (inl line) = inl (later prefix p l ls a e line)
-    by (inr kept) = here prefix p l ls a e earlier kept
+    by : Lined prefix (p + length l) ls s ⊎ Kept prefix ls (newer prefix p l earlier) s → Lined prefix p (l ∷ ls) s ⊎ Kept prefix (l ∷ ls) earlier s
+    by (inl line) = inl (later prefix p l ls s line)
+    by (inr kept) = here prefix p l ls s earlier kept
 
 -- the line that a value is read from
-pub value_line : (text prefix : List ℕ) (a e : ℕ) → value_of text prefix ≡ At a e → Lined prefix 0 (headers (lines text)) a e
+pub value_line : (text prefix : List ℕ) (s : Stretch) → value_of text prefix ≡ Some s → Lined prefix 0 (headers (lines text)) s
 unfolding value_of
-value_line text prefix a e q = by (lined prefix 0 (headers (lines text)) Absent a e q)
+value_line text prefix s q = by (lined prefix 0 (headers (lines text)) None s q)
   where
-    by : Lined prefix 0 (headers (lines text)) a e ⊎ Kept prefix (headers (lines text)) Absent a e → Lined prefix 0 (headers (lines text)) a e
+    by : Lined prefix 0 (headers (lines text)) s ⊎ Kept prefix (headers (lines text)) None s → Lined prefix 0 (headers (lines text)) s
     by (inl line) = line
-    by (inr kept) = let no : Absent ≡ At a e = kept.is in let z : ◌≡◌ {A = ℕ} 0 1 = cc in absurd (omega arith)
+    by (inr kept) = absurd (none-some s kept.is)
 
 -- every line of the header begins with `H` and a space
 pub headers_begin : (ls : List (List ℕ)) (k : ℕ) → k < length (headers ls) → begins (ascii "H ") (bare (get_or (headers ls) k [])) ≡ true
@@ -169,16 +172,16 @@ bytes_behind text l start n h e =
     ap (take (length l - n)) (sym (drop-drop n start text)) ∙ sym (drop_take n (length l) (drop start text) h) ∙ ap (drop n) e
 
 -- a value is what its line has behind the prefix
-module _ (text prefix : List ℕ) (a e : ℕ) (q : value_of text prefix ≡ At a e) where
-  pub value_bytes : part text (At a e) ≡ drop (length prefix) (bare (get_or (headers (lines text)) (value_line text prefix a e q).k []))
+module _ (text prefix : List ℕ) (s : Stretch) (q : value_of text prefix ≡ Some s) where
+  pub value_bytes : part text (Some s) ≡ drop (length prefix) (bare (get_or (headers (lines text)) (value_line text prefix s q).k []))
   unfolding part given
   value_bytes =
-      let line = value_line text prefix a e q in
-      let within = value_within text prefix a e q in
+      let line = value_line text prefix s q in
+      let within = value_within text prefix s q in
       let l : List ℕ = bare (get_or (headers (lines text)) line.k []) in
       let start : ℕ = total (take line.k (headers (lines text))) in
-      let from : a ≡ start + length prefix = omega (arith, line.from) in
-      let size : e - a ≡ length l - length prefix = omega (arith, line.from, line.till) in
+      let from : s.start ≡ start + length prefix = omega (arith, line.from) in
+      let size : s.end - s.start ≡ length l - length prefix = omega (arith, line.from, line.till) in
       let fits : length prefix ≤ length l = omega (arith, line.from, line.till) in
-      rw (le-leb a e within.0, le-leb e (length text) (omega (arith, section_within text)))
+      rw (le-leb s.start s.end within.0, le-leb s.end (length text) (omega (arith, section_within text)))
       (ap₂ (λ n m. take n (drop m text)) size from ∙ bytes_behind text l start (length prefix) fits (header_stands text line.k line.there))

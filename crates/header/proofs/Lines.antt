@@ -1,14 +1,15 @@
 -- Lines byte by byte: how far a prefix begins one, where it ends, and what is the first line of a text.
 use Prim.Native.Nat.{ℕ, suc, ◌+◌, ◌<◌, ◌≤◌}
-use mathlib.Core.Bool.{Bool, true, false, cond, ◌&&◌, and-false}
+use mathlib.Core.Bool.{Bool, true, false, cond, ◌&&◌, and-false, true≢false}
 use mathlib.Core.List.{List, [], ◌∷◌}
 use mathlib.Core.Path.{◌≡◌, refl, sym, ap, ◌∙◌}
 use native.Mathlib.Omega.{arith}
 use lib.Dec.{eqb}
-use lib.ListN.{length, drop, take, get_or, length-take, length-drop, drop_of_length-le}
-use borrow.Author.Tests.{eq-eqb, ne_eqb, eqb-true}
+use lib.ListN.{length, drop, take, length-take, length-drop}
+use borrow.Author.Tests.{ne_eqb, eqb-true}
 use Rattle.items.specs.Text.{ascii}
-use Rattle.items.proofs.Saying.{drop_step}
+use Rattle.digits.specs.Digits.{before}
+use Rattle.digits.proofs.Parting.{before_step}
 use Rattle.header.specs.Lines.{lines, bare, begins, onto}
 
 -- ## A prefix
@@ -19,53 +20,21 @@ begins_short [] l h = absurd (omega arith)
 begins_short (x ∷ p) [] h = refl
 begins_short (x ∷ p) (y ∷ l) h = sym (and-false (eqb x y)) ∙ ap (λ q. eqb x y && q) (begins_short p l (omega arith))
 
--- the first i bytes agree
-pub record Agree (line prefix : List ℕ) (i : ℕ) : Type 0 where
-  pub is : begins prefix line ≡ begins (drop i prefix) (drop i line)
-
-pub agree_first : (line prefix : List ℕ) → Agree line prefix 0
-agree_first line prefix = record { is = refl }
-
-module _ (line prefix : List ℕ) (i : ℕ) where
-  pub agree_on : Agree line prefix i → get_or line i 0 ≡ get_or prefix i 0 → i < length prefix → length prefix ≤ length line → Agree line prefix (i + 1)
-  unfolding begins
-  agree_on agree e h le = record { is = agree.is ∙ rw (drop_step prefix i h, drop_step line i (omega arith), eq-eqb _ _ (sym e)) }
-
-  pub agree_not : Agree line prefix i → (get_or line i 0 ≡ get_or prefix i 0 → ⊥) → i < length prefix → length prefix ≤ length line → false ≡ begins prefix line
-  unfolding begins
-  agree_not agree n h le = sym (agree.is ∙ rw (drop_step prefix i h, drop_step line i (omega arith), ne_eqb _ _ (λ e. n (sym e))))
-
-  pub agree_end : Agree line prefix i → length prefix ≤ i → true ≡ begins prefix line
-  unfolding begins
-  agree_end agree h = sym (agree.is ∙ rw (drop_of_length-le prefix h))
+pub begins_length : (p l : List ℕ) → begins p l ≡ true → length p ≤ length l
+begins_length p l e =
+    let not_short : length l < length p → ⊥ = λ h. true≢false (sym e ∙ sym (begins_short p l h)) in
+    omega arith
 
 -- ## Where a line ends
 
--- on the way from `from` to the line's end, i is reached
-pub record Reached (s : List ℕ) (from i : ℕ) : Type 0 where
-  pub is : from + length (bare (drop from s)) ≡ i + length (bare (drop i s))
+bare_by : (b : ℕ) (t : List ℕ) (q : Bool) → length (bare t) ≡ before 10 t → length (cond q [] (b ∷ bare t)) ≡ cond q 0 (suc (before 10 t))
+bare_by b t true e = refl
+bare_by b t false e = ap suc e
 
-pub reached_first : (s : List ℕ) (from : ℕ) → Reached s from from
-reached_first s from = record { is = refl }
-
-module _ (s : List ℕ) (from i : ℕ) where
-  pub reached_on : Reached s from i → (get_or s i 0 ≡ 10 → ⊥) → i < length s → Reached s from (i + 1)
-  unfolding bare
-  reached_on reached n h =
-      let more : length (bare (drop i s)) ≡ suc (length (bare (drop (i + 1) s))) = rw (drop_step s i h, ne_eqb _ _ n) in
-      record { is = omega (arith, reached.is) }
-
-  pub reached_feed : Reached s from i → get_or s i 0 ≡ 10 → i < length s → i ≡ from + length (bare (drop from s))
-  unfolding bare
-  reached_feed reached e h =
-      let none : length (bare (drop i s)) ≡ 0 = rw (drop_step s i h, eq-eqb _ _ e) in
-      omega (arith, reached.is)
-
-  pub reached_end : Reached s from i → length s ≤ i → i ≡ from + length (bare (drop from s))
-  unfolding bare
-  reached_end reached h =
-      let none : length (bare (drop i s)) ≡ 0 = rw (drop_of_length-le s h) in
-      omega (arith, reached.is)
+pub bare_before : (t : List ℕ) → length (bare t) ≡ before 10 t
+unfolding bare before
+bare_before [] = refl
+bare_before (b ∷ t) = rw (before_step 10 b t) (bare_by b t (eqb b 10) (bare_before t))
 
 -- ## The first line of a text
 

@@ -1,17 +1,17 @@
 -- Laws for later layers: the section begins within the text, and a value stands within the header.
-use Prim.Native.Nat.{ℕ, suc, ◌+◌, ◌<◌, ◌≤◌}
-use mathlib.Core.Bool.{true, false, cond, true≢false}
+use Prim.Native.Nat.{ℕ, suc, ◌+◌, ◌≤◌}
+use mathlib.Core.Bool.{true, false, cond}
 use mathlib.Core.List.{List, [], ◌∷◌}
-use mathlib.Core.Path.{◌≡◌, refl, sym, ◌∙◌}
+use mathlib.Core.Path.{◌≡◌, refl}
 use native.Mathlib.Omega.{arith}
 use lib.Dec.{eqb}
 use lib.ListN.{length}
+use Rattle.std.specs.Prelude.{Option, Some, None}
 use Rattle.items.specs.declared.Stretch.{Stretch}
-use Rattle.items.specs.declared.Stretch.TheVariants.{At, Absent}
 use Rattle.items.specs.Text.{ascii}
 use Rattle.header.specs.Header.{newer, last_from, value_of, header_of}
 use Rattle.header.specs.Lines.{lines, bare, begins, headers, total, onto}
-use Rattle.header.proofs.Lines.{begins_short, bare_within}
+use Rattle.header.proofs.Lines.{begins_length, bare_within}
 
 total_onto : (b : ℕ) (ls : List (List ℕ)) → total (onto b ls) ≡ suc (total ls)
 unfolding total
@@ -38,34 +38,31 @@ unfolding header_of
 section_within text = omega (arith, headers_within (lines text), total_lines text)
 
 -- a stretch ends at n or before, if it is given
-abbrev Within : ℕ → Stretch → Type 0
-Within n (At a e) = (a ≤ e) × (e ≤ n)
-Within n Absent = Unit
+abbrev Within : ℕ → Option Stretch → Type 0
+Within n (Some s) = (s.start ≤ s.end) × (s.end ≤ n)
+Within n None = Unit
 
-within_more : (n m : ℕ) (s : Stretch) → n ≤ m → Within n s → Within m s
-within_more n m (At a e) le h = omega arith
-within_more n m Absent le h = tt
+within_more : (n m : ℕ) (s : Option Stretch) → n ≤ m → Within n s → Within m s
+within_more n m (Some s) le h = omega arith
+within_more n m None le h = tt
 
-begins_within : (p l : List ℕ) → begins p l ≡ true → length p ≤ length l
-begins_within p l e =
-    let not_short : length l < length p → ⊥ = λ h. true≢false (sym e ∙ sym (begins_short p l h)) in
-    omega arith
-
-newer_within : (prefix : List ℕ) (p : ℕ) (l : List ℕ) (earlier : Stretch) → Within p earlier → Within (p + length l) (newer prefix p l earlier)
+newer_within : (prefix : List ℕ) (p : ℕ) (l : List ℕ) (earlier : Option Stretch) → Within p earlier → Within (p + length l) (newer prefix p l earlier)
 unfolding newer
 newer_within prefix p l earlier h =
-    elim (begins prefix (bare l)) as (λ q. begins prefix (bare l) ≡ q → Within (p + length l) (cond q (At (p + length prefix) (p + length (bare l))) earlier))
-    [ true ↦ λ e. omega (arith, begins_within prefix (bare l) e, bare_within l) | false ↦ λ e. within_more p (p + length l) earlier (omega arith) h ] refl
+    elim (begins prefix (bare l)) as (λ q. begins prefix (bare l) ≡ q
+    → Within (p + length l) (cond q (Some (record { start = p + length prefix; end = p + length (bare l) })) earlier))
+    [ true ↦ λ e. omega (arith, begins_length prefix (bare l) e, bare_within l) | false ↦ λ e. within_more p (p + length l) earlier (omega arith) h ] refl
 
-last_within : (prefix : List ℕ) (p : ℕ) (ls : List (List ℕ)) (earlier : Stretch) → Within p earlier → Within (p + total ls) (last_from prefix p ls earlier)
+last_within : (prefix : List ℕ) (p : ℕ) (ls : List (List ℕ)) (earlier : Option Stretch) → Within p earlier
+    → Within (p + total ls) (last_from prefix p ls earlier)
 unfolding total last_from
 last_within prefix p [] earlier h = within_more p (p + 0) earlier (omega arith) h
 last_within prefix p (l ∷ ls) earlier h =
     within_more (p + length l + total ls) (p + (length l + total ls)) (last_from prefix (p + length l) ls (newer prefix p l earlier)) (omega arith)
     (last_within prefix (p + length l) ls (newer prefix p l earlier) (newer_within prefix p l earlier h))
 
-pub value_within : (text prefix : List ℕ) (a e : ℕ) → value_of text prefix ≡ At a e → (a ≤ e) × (e ≤ (header_of text).section)
+pub value_within : (text prefix : List ℕ) (s : Stretch) → value_of text prefix ≡ Some s → (s.start ≤ s.end) × (s.end ≤ (header_of text).section)
 unfolding value_of header_of
-value_within text prefix a e q =
-    let within : Within (0 + total (headers (lines text))) (At a e) = rw q at (last_within prefix 0 (headers (lines text)) Absent tt) in
+value_within text prefix s q =
+    let within : Within (0 + total (headers (lines text))) (Some s) = rw q at (last_within prefix 0 (headers (lines text)) None tt) in
     omega arith

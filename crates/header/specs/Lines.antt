@@ -1,5 +1,6 @@
 -- The lines of a log, and which of them are its header (document 01, "Sessions to reproduce").
-use Rattle.std.specs.Prelude.{ℕ, ◌+◌, Bool, true, false, cond, ◌&&◌, List, [], ◌∷◌, eqb, length}
+use Rattle.std.specs.Prelude.{ℕ, ◌+◌, Bool, cond, List, [], ◌∷◌, eqb, length}
+use Rattle.std.specs.List.{starts_with}
 use Rattle.items.specs.Text.{ascii}
 
 -- a byte in front of the first line
@@ -18,9 +19,7 @@ bare [] = []
 bare (b ∷ t) = cond (eqb b 10) [] (b ∷ bare t)
 
 unfoldable pub begins : (prefix line : List ℕ) → Bool
-begins [] line = true
-begins (x ∷ p) [] = false
-begins (x ∷ p) (y ∷ l) = eqb x y && begins p l
+begins prefix line = starts_with eqb line prefix
 
 -- the lines before the first that does not begin with `H` and a space: the section begins behind them
 unfoldable pub headers : List (List ℕ) → List (List ℕ)

@@ -3,11 +3,12 @@
 #![tactic(auto)]
 
 ghost use Rattle.std.specs.Prelude.{◌≡◌, ◌+◌, ◌≤◌, min, length, drop};
-ghost use Rattle.items.specs.Text.{ascii};
 ghost use Rattle.header.specs.Header.{newer, lists_of};
-ghost use Rattle.header.specs.Lines.{lines, bare, begins, headers, total};
+ghost use Rattle.header.specs.Lines.{lines, bare, headers, total};
+ghost use Rattle.header.specs.Walk.{header_line};
 ghost use Rattle.header.specs.Owes.{ValueOwes, ReadOwes};
 
+use digits::until;
 use items::{Lists, MainLists, SlowLists, Stretch};
 
 // The lists, as stretches of the log, and the place of the section's first byte.
@@ -17,80 +18,58 @@ pub struct Header {
     pub section: usize,
 }
 
-fn begins_with(line: &[u8], prefix: &[u8]) -> bool
-    ensures { result ≡ begins prefix.now line.now }
+// The header line that starts at `at`, without its line feed. Asked before its end is looked for, so that no section is searched for one.
+fn header_line(text: &[u8], at: usize) -> Option<Stretch>
+    requires { at ≤ length text.now }
+    ensures { result ≡ header_line text.now at }
 {
-    if line.len() < prefix.len() {
-        return false;
+    let rest = &text[at..];
+    if !rest.starts_with(b"H ") {
+        return None;
     }
-    let mut i = 0;
-    while i < prefix.len() {
-        if line[i] != prefix[i] {
-            return false;
-        }
-        i += 1;
-    }
-    true
+    Some(Stretch {
+        start: at,
+        end: at + until(rest, b'\n'),
+    })
 }
 
-// Whether the line that starts here is one of the header's: asked before its end is looked for.
-fn is_header(rest: &[u8]) -> bool
-    ensures { result ≡ begins (ascii "H ") (bare rest.now) }
+// The value of a line behind a prefix, or what an earlier line gave.
+fn newer_value(
+    text: &[u8],
+    line: Stretch,
+    prefix: &[u8],
+    earlier: Option<Stretch>,
+) -> Option<Stretch>
+    requires { (line.start ≤ length text.now) × (line.end ≡ line.start + length (bare (drop line.start text.now))) }
+    ensures { result ≡ newer prefix.now line.start (drop line.start text.now) earlier }
 {
-    begins_with(rest, b"H ")
-}
-
-// Where the line that starts at `from` has its line feed, or the end of the text.
-fn line_feed(text: &[u8], from: usize) -> usize
-    requires { from ≤ length text.now }
-    ensures { result ≡ from + length (bare (drop from text.now)) }
-{
-    let mut end = from;
-    while end < text.len() {
-        if text[end] == b'\n' {
-            return end;
-        }
-        end += 1;
+    if text[line.start..line.end].starts_with(prefix) {
+        Some(Stretch {
+            start: line.start + prefix.len(),
+            end: line.end,
+        })
+    } else {
+        earlier
     }
-    end
-}
-
-// The value of the line from `at` to `end` behind a prefix, or what an earlier line gave.
-fn newer_value(text: &[u8], at: usize, end: usize, prefix: &[u8], earlier: Stretch) -> Stretch
-    requires { (at ≤ length text.now) × (end ≡ at + length (bare (drop at text.now))) }
-    ensures { result ≡ newer prefix.now at (drop at text.now) earlier }
-{
-    if begins_with(&text[at..end], prefix) {
-        return Stretch::At(at + prefix.len(), end);
-    }
-    earlier
 }
 
 // Behind a line feed, or the end of the text.
 fn next_line(text: &[u8], end: usize) -> usize
+    requires { end ≤ length text.now }
     ensures { result ≡ min (end + 1) (length text.now) }
 {
-    if end < text.len() {
-        end + 1
-    } else {
-        text.len()
-    }
+    text.len().min(end + 1)
 }
 
 // The value of the last header line with a prefix.
-pub fn value(text: &[u8], prefix: &[u8]) -> Stretch
+pub fn value(text: &[u8], prefix: &[u8]) -> Option<Stretch>
     ensures { ValueOwes text.now prefix.now result }
 {
-    let mut found = Stretch::Absent;
-    let mut at: usize = 0;
-    while at < text.len() {
-        if !is_header(&text[at..]) {
-            return found;
-        }
-        let end = line_feed(text, at);
-        let next = newer_value(text, at, end, prefix, found);
-        found = next;
-        at = next_line(text, end);
+    let mut found = None;
+    let mut at = 0;
+    while let Some(line) = header_line(text, at) {
+        found = newer_value(text, line, prefix, found);
+        at = next_line(text, line.end);
     }
     found
 }
@@ -119,14 +98,11 @@ fn lists(text: &[u8]) -> Lists
 fn section_start(text: &[u8]) -> usize
     ensures { result ≡ total (headers (lines text.now)) }
 {
-    let mut at: usize = 0;
-    while at < text.len() {
-        if !is_header(&text[at..]) {
-            return at;
-        }
-        at = next_line(text, line_feed(text, at));
+    let mut start = 0;
+    while let Some(line) = header_line(text, start) {
+        start = next_line(text, line.end);
     }
-    at
+    start
 }
 
 pub fn read(text: &[u8]) -> Header

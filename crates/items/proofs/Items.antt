@@ -1,63 +1,33 @@
--- The items of a text: the first, those behind it, and where each stands.
+-- The items of a text: where each stands, and what the code finds behind a stretch.
 use Prim.Native.Nat.{ℕ, zero, suc, ◌+◌, ◌-◌, ◌<◌, ◌≤◌}
-use mathlib.Core.Bool.{Bool, true, false, cond, not, and-false}
+use mathlib.Core.Bool.{Bool, true, false, cond, and-false}
 use mathlib.Core.List.{List, [], ◌∷◌}
+use mathlib.Core.Logic.{◌⊎◌, ⊎_elim}
 use mathlib.Core.Path.{◌≡◌, refl, sym, ap, ◌∙◌}
-use native.Mathlib.Decide.{dec_lt}
-use native.Mathlib.Nat.{add-zero}
 use native.Mathlib.Numerals.{add-one}
 use native.Mathlib.Omega.{arith}
-use lib.Dec.{eqb, leb}
-use lib.ListN.{length, take, drop, length-drop, get_or-eq_default}
-use lib.Seq.{length-take-le, drop-cons, drop-drop, get_or-drop}
-use borrow.Author.Tests.{lt-ltb, le-ltb, lt-leb, le-leb}
-use mathlib.Core.Logic.{◌⊎◌, ⊎_elim}
+use lib.Dec.{eqb, ltb, leb}
+use lib.ListN.{length, get_or, take, drop, get_or-eq_default}
+use borrow.Author.Tests.{lt-ltb, le-ltb, ltb-true, ltb-false, lt-leb, le-leb}
 use denote.Ref.{Bor}
 use Rattle.std.specs.Prelude.{Option, Some, None, MatchOption}
 use Rattle.std.specs.Option.{is_some, unwrap_or}
-use Rattle.std.specs.List.{slice_range}
-use Rattle.digits.specs.Digits.{before}
-use Rattle.digits.proofs.Parting.{before_step, before_within}
+use Rattle.std.specs.List.{slice_range, onto_first, enumerate_from}
+use Rattle.std.proofs.lemmas.List.{get_or_read}
+use Rattle.std.proofs.lemmas.List.FromFn.{get_or-enumerate_from, length-enumerate_from}
+use Rattle.std.proofs.lemmas.List.Splits.{length-slice_split}
+use Rattle.std.proofs.lemmas.List.Sums.{count_by-le-length}
+use Rattle.std.proofs.lemmas.Option.{cond_some}
 use Rattle.items.specs.declared.Stretch.{Stretch}
-use Rattle.items.specs.Items.{items, onto, at, start_of, item_at, absent, given, part}
+use Rattle.items.specs.Items.{items, at, start_of, item_at, given, part}
 
--- ## The first item
+-- ## How many, and where
 
--- the items behind the first, which ends at a comma or where the text does
-abbrev behind : List ℕ → List (List ℕ)
-behind [] = []
-behind (c ∷ t) = items t
-
-first_by : (t : List ℕ) (b : ℕ) (q : Bool) → items t ≡ take (before 44 t) t ∷ behind (drop (before 44 t) t)
-    → cond q ([] ∷ items t) (onto b (items t)) ≡ take (cond q 0 (suc (before 44 t))) (b ∷ t) ∷ behind (drop (cond q 0 (suc (before 44 t))) (b ∷ t))
-first_by t b true h = refl
-first_by t b false h = ap (onto b) h
-
-first : (t : List ℕ) → items t ≡ take (before 44 t) t ∷ behind (drop (before 44 t) t)
-unfolding items before
-first [] = refl
-first (b ∷ t) = rw (before_step 44 b t) (first_by t b (eqb b 44) (first t))
-
-pub items_some : (t : List ℕ) → 1 ≤ length (items t)
-items_some t = omega (arith, ap length (first t))
-
-count_by : (q : Bool) (b : ℕ) (l : List (List ℕ)) (n : ℕ) → length l ≤ n + 1 → length (cond q ([] ∷ l) (onto b l)) ≤ suc n + 1
-count_by true b l n h = omega arith
-count_by false b [] n h = omega arith
-count_by false b (i ∷ r) n h = omega arith
-
-pub items_count_le : (t : List ℕ) → length (items t) ≤ length t + 1
+pub items_count : (t : List ℕ) → (1 ≤ length (items t)) × (length (items t) ≤ length t + 1)
 unfolding items
-items_count_le [] = omega arith
-items_count_le (b ∷ t) = count_by (eqb b 44) b (items t) (length t) (items_count_le t)
+items_count t = omega (arith, length-slice_split (λ b. eqb b 44) t, count_by-le-length (λ b. eqb b 44) t)
 
-behind_count : (t : List ℕ) → length (behind t) ≤ length t
-behind_count [] = omega arith
-behind_count (c ∷ t) = omega (arith, items_count_le t)
-
--- ## Where an item starts
-
-start_first : (l : List (List ℕ)) → start_of l 0 ≡ 0
+pub start_first : (l : List (List ℕ)) → 0 ≡ start_of l 0
 unfolding start_of
 start_first [] = refl
 start_first (i ∷ r) = refl
@@ -68,87 +38,81 @@ start_next [] k h = absurd (omega arith)
 start_next (i ∷ r) zero h = omega (arith, start_first r)
 start_next (i ∷ r) (suc k) h = omega (arith, start_next r k (omega arith))
 
--- item k of s starts at `from`, and the items from there on are those of the rest
-pub record Stands (s : List ℕ) (from k : ℕ) : Type 0 where
-  pub within : from ≤ length s
-  pub start : from ≡ start_of (items s) k
-  pub is : drop k (items s) ≡ items (drop from s)
+-- item k lies in the text, and its bytes are those from its start on
+abbrev Stands : List ℕ → List (List ℕ) → ℕ → Type 0
+Stands t l k = (start_of l k + length (at l k) ≤ length t) × (take (length (at l k)) (drop (start_of l k) t) ≡ at l k)
 
-pub stands_first : (s : List ℕ) → Stands s 0 0
-stands_first s = record { within = omega arith; start = sym (start_first (items s)); is = refl }
+-- q says whether the first byte is a comma
+stands_by : (q : Bool) (b : ℕ) (t : List ℕ) (l : List (List ℕ)) → ((k : ℕ) → k < length l → Stands t l k)
+    → (k : ℕ) → k < length (cond q ([] ∷ l) (onto_first b l)) → Stands (b ∷ t) (cond q ([] ∷ l) (onto_first b l)) k
+unfolding start_of
+stands_by true b t l f zero h = (omega arith, refl)
+stands_by true b t l f (suc k) h =
+    let is = f k (omega arith) in
+    let next : 1 + start_of l k ≡ suc (start_of l k) = omega arith in
+    (omega (arith, is.0), rw next is.1)
+stands_by false b t [] f zero h = (omega arith, refl)
+stands_by false b t [] f (suc k) h = absurd (omega arith)
+stands_by false b t (i ∷ r) f zero h = let is = f 0 (omega arith) in (omega (arith, is.0), ap (λ s. b ∷ s) is.1)
+stands_by false b t (i ∷ r) f (suc k) h =
+    let is = f (suc k) (omega arith) in
+    let next : suc (length i) + 1 + start_of r k ≡ suc (length i + 1 + start_of r k) = omega arith in
+    (omega (arith, is.0), rw next is.1)
 
--- item k, from `from` to `end`
-module _ {s : List ℕ} {from k end : ℕ} (here : Stands s from k) (till : end ≡ from + before 44 (drop from s)) where
-  pub ends : (from ≤ end) × (end ≤ length s)
-  ends = omega (arith, here.within, before_within 44 (drop from s), length-drop from s)
+stands : (t : List ℕ) (k : ℕ) → k < length (items t) → Stands t (items t) k
+unfolding items start_of
+stands [] zero h = (omega arith, refl)
+stands [] (suc k) h = absurd (omega arith)
+stands (b ∷ t) k h = stands_by (eqb b 44) b t (items t) (stands t) k h
 
-  cut : drop k (items s) ≡ take (end - from) (drop from s) ∷ behind (drop end s)
-  cut =
-      let size : end - from ≡ before 44 (drop from s) = omega arith in
-      here.is ∙ rw (size, till, ← drop-drop) (first (drop from s))
+-- ## Item by item
 
-  -- behind it there are at most as many items as bytes, so none where the text ends
-  pub counts : (k < length (items s)) × (length (items s) ≤ k + 1 + (length s - end))
-  counts = omega (arith, length-drop k (items s), ap length cut, behind_count (drop end s), length-drop end s)
+-- what the library's split gives behind the first n items
+pub nth_item : (t : List ℕ) {n : ℕ} {x : List ℕ} → (n < length (items t)) × (x ≡ get_or (items t) n x) → x ≡ at (items t) n
+nth_item t {n} {x} h = get_or_read (items t) n x h.0 h.1 []
 
-  -- its bytes
-  pub item : take (end - from) (drop from s) ≡ at (items s) k
-  item = sym (ap (λ l. at l 0) cut) ∙ get_or-drop k (items s) 0 [] ∙ ap (at (items s)) (add-zero k)
+-- the same, with its number
+pub nth : (t : List ℕ) {n j : ℕ} {x : List ℕ} → (n < length (enumerate_from 0 (items t))) × ((j, x) ≡ get_or (enumerate_from 0 (items t)) n (j, x))
+    → (n < length (items t)) × (j ≡ n) × (x ≡ at (items t) n)
+nth t {n} {j} {x} h =
+    let l : n < length (items t) = omega (arith, length-enumerate_from 0 (items t), h.0) in
+    let same = h.1 ∙ get_or-enumerate_from 0 (items t) n (j, x) l in
+    (l, omega (arith, ap (λ p. p.0) same), get_or_read (items t) n x l (ap (λ p. p.1) same) [])
 
-  item_length : from + length (at (items s) k) ≡ end
-  item_length =
-      omega (arith, ends, ap length item, length-take-le (end - from) (drop from s) (omega (arith, ends, length-drop from s)))
+module _ (t : List ℕ) {n start : ℕ} {x : List ℕ} (l : n < length (items t)) (from : start ≡ start_of (items t) n) (is : x ≡ at (items t) n) where
+  pub item_ends : start + length x ≤ length t
+  item_ends = omega (arith, (stands t n l).0, ap length is)
 
-  pub stands_next : (end ≡ length s → ⊥) → Stands s (end + 1) (k + 1)
-  stands_next ne =
-      let more : end < length s = omega (arith, ends) in
-      record {
-        within = omega arith;
-        start = rw (add-one k) (omega (arith, here.start, item_length, start_next (items s) k counts.0));
-        is = sym (drop-drop 1 k (items s)) ∙ ap (drop 1) cut ∙ rw (add-one end, drop-cons s end 0 more);
-      }
+  pub item_next : {m : ℕ} → m ≡ n + 1 → start + length x + 1 ≡ start_of (items t) m
+  item_next e = rw (e, add-one n) (omega (arith, start_next (items t) n l, ap length is))
 
-  pub item_at_here : {j : ℕ} → k ≡ j → Some (record { start = from; end = end }) ≡ item_at s j
+  pub item_at_here : {k : ℕ} → n ≡ k → Some (record { start = start; end = start + length x }) ≡ item_at t k
   unfolding item_at
-  item_at_here same = rw (← same, lt-ltb k (length (items s)) counts.0, ← here.start, item_length)
+  item_at_here e = rw (← e, lt-ltb n (length (items t)) l, from, is)
 
-  pub item_at_beyond : {j : ℕ} → (end ≡ length s) × (k < j) → None ≡ item_at s j
-  unfolding item_at
-  item_at_beyond {j} done = rw (le-ltb j (length (items s)) (omega (arith, counts)))
+pub item_at_none : (t : List ℕ) (k : ℕ) → length (items t) ≤ k → None ≡ item_at t k
+unfolding item_at
+item_at_none t k h = rw (le-ltb k (length (items t)) h)
 
--- ## Every item stands somewhere
-
-stands_at : (s : List ℕ) (k : ℕ) → k < length (items s) → Stands s (start_of (items s) k) k
-stands_at s zero h = rw (start_first (items s)) (stands_first s)
-stands_at s (suc k) h =
-    let here = stands_at s k (omega arith) in
-    let next = stands_next here refl (λ e. omega (arith, counts here refl)) in
-    rw (← add-one k, ← next.start) next
-
--- what holds of where an item stands, and of none, holds of `item_at`
-module _ (t : List ℕ) (k : ℕ) (P : Option Stretch → Type 0) where
-  by_item : ((s : Stretch) → Stands t s.start k → s.end ≡ s.start + before 44 (drop s.start t) → P (Some s)) → (length (items t) ≤ k → P None) → P (item_at t k)
-  unfolding item_at
-  by_item f g = by (dec_lt k (length (items t)))
-    where
-      by : Dec (k < length (items t)) → P (item_at t k)
-      by (yes h) = let here = stands_at t k h in rw (← item_at_here here refl refl) (f _ here refl)
-      by (no h) = rw (le-ltb k (length (items t)) (omega arith)) (g (omega arith))
+-- ## Where an item stands
 
 pub item_within : (t : List ℕ) (k : ℕ) (s : Stretch) → item_at t k ≡ Some s → (s.start ≤ s.end) × (s.end ≤ length t)
-item_within t k s =
-    by_item t k (λ o. o ≡ Some s → (s.start ≤ s.end) × (s.end ≤ length t))
-    (λ i here till same. let there : i ≡ s = cc in rw (← there) (ends here till))
-    (λ h same. cc)
+unfolding item_at
+item_within t k s e =
+    let there = cond_some (ltb k (length (items t))) _ _ e in
+    rw (← there.1) (omega (arith, (stands t k (ltb-true _ _ there.0)).0))
 
 pub item_part : (t : List ℕ) (k : ℕ) → part t (item_at t k) ≡ at (items t) k
-unfolding part given
-item_part t k =
-    by_item t k (λ s. part t s ≡ at (items t) k)
-    (λ s here till.
-    let within = ends here till in
-    rw (le-leb s.start s.end within.0, le-leb s.end (length t) within.1) (item here till))
-    (λ h. sym (get_or-eq_default (items t) [] h))
+unfolding item_at part given
+item_part t k = either (ltb k (length (items t))) refl
+  where
+    either : (q : Bool) → ltb k (length (items t)) ≡ q
+        → part t (cond q (Some (record { start = start_of (items t) k; end = start_of (items t) k + length (at (items t) k) })) None) ≡ at (items t) k
+    either true e =
+        let is = stands t k (ltb-true _ _ e) in
+        let size : start_of (items t) k + length (at (items t) k) - start_of (items t) k ≡ length (at (items t) k) = omega arith in
+        rw (le-leb (start_of (items t) k) (start_of (items t) k + length (at (items t) k)) (omega arith), le-leb _ (length t) is.0, size) is.1
+    either false e = sym (get_or-eq_default (items t) [] (ltb-false _ _ e))
 
 -- ## The bytes of a stretch
 

@@ -1,20 +1,18 @@
 -- Rows: what each room of one says, and how one fills item by item.
-use Prim.Native.Nat.{ℕ, zero, suc, ◌+◌, ◌-◌, ◌<◌, ◌≤◌}
+use Prim.Native.Nat.{ℕ, zero, suc, ◌+◌, ◌<◌, ◌≤◌}
 use mathlib.Core.Bool.{Bool, true, false, cond}
 use mathlib.Core.List.{List, [], ◌∷◌}
-use mathlib.Core.Path.{◌≡◌, refl, ap, ap₂, ◌∙◌}
+use mathlib.Core.Path.{◌≡◌, refl, sym, ap, ap₂, ◌∙◌}
 use native.Mathlib.Numerals.{add-one}
 use native.Mathlib.Omega.{arith}
 use lib.Dec.{eqb, eqb-zero-suc, eqb-suc-zero, eqb-suc-suc}
-use lib.ListN.{length, get_or, take, drop, set, replicate}
-use lib.Seq.{take-length}
+use lib.ListN.{length, get_or, take, set, replicate}
+use lib.Seq.{take-length, set_out}
 use Rattle.items.specs.declared.Of.{Of}
 use Rattle.items.specs.declared.Row.{Row}
 use Rattle.items.specs.Items.{items, at}
 use Rattle.items.specs.Rows.{code_of, row_of}
-use Rattle.digits.specs.Digits.{before}
-use Rattle.items.proofs.Items.{items_count_le, Stands, stands_first, ends, counts, item, stands_next}
-use Rattle.items.proofs.Tables.{get_d_table, table_same, set_table, replicate_table}
+use Rattle.items.proofs.Tables.{length_table, get_d_table, table_same, set_table, replicate_table}
 
 module _ (of : Of) (l : List (List ℕ)) where
   pub codes_at : (k : ℕ) → k < 64 → get_or (row_of of l).codes k 0 ≡ code_of of (at l k)
@@ -51,32 +49,27 @@ row_more of l k =
     (set_table 64 (λ i. code_of of (at (take k l) i)) k (code_of of (at l k))
     ∙ table_same 64 _ _ (λ i _. room (code_of of) l k i))
 
--- the first k items are read, and the next stands from `from` to `end`
-pub record Filled (of : Of) (s codes : List ℕ) (k from end : ℕ) : Type 0 where
-  pub within : (from ≤ end) × (end ≤ length s) × (k ≤ length s)
-  pub here : Stands s from k
-  pub till : end ≡ from + before 44 (drop from s)
-  pub are : codes ≡ (row_of of (take k (items s))).codes
+-- the rooms hold what the first k items say
+abbrev pub Filled : Of → List ℕ → List ℕ → ℕ → Type 0
+Filled of s codes k = codes ≡ (row_of of (take k (items s))).codes
 
-filled : {of : Of} {s codes : List ℕ} {k from end : ℕ} → Stands s from k → end ≡ from + before 44 (drop from s)
-    → codes ≡ (row_of of (take k (items s))).codes → Filled of s codes k from end
-filled {s = s} here till are =
-    record { within = omega (arith, ends here till, counts here till, items_count_le s); here = here; till = till; are = are }
+pub filled_first : (of : Of) (s : List ℕ) {v : ℕ} → v ≡ code_of of [] → Filled of s (replicate 64 v) 0
+filled_first of s e = ap (replicate 64) e ∙ row_none of
 
-pub filled_first : {of : Of} {s : List ℕ} {v end : ℕ} → v ≡ code_of of [] → end ≡ 0 + before 44 (drop 0 s) → Filled of s (replicate 64 v) 0 0 end
-filled_first {of} {s} e till = filled (stands_first s) till (ap (replicate 64) e ∙ row_none of)
+module _ (of : Of) (s codes : List ℕ) (k : ℕ) {x : List ℕ} (is : x ≡ at (items s) k) (are : Filled of s codes k) where
+  pub filled_on : {more : List ℕ} {v : ℕ} → v ≡ code_of of x → more ≡ set codes k v → Filled of s more (k + 1)
+  filled_on said laid = laid ∙ ap₂ (λ c y. set c k y) are (said ∙ ap (code_of of) is) ∙ row_more of (items s) k
 
-module _ {of : Of} {s codes : List ℕ} {k from end v : ℕ} {more : List ℕ} (is : Filled of s codes k from end)
-    (said : v ≡ code_of of (take (end - from) (drop from s))) (laid : more ≡ set codes k v) where
-  one_more : more ≡ (row_of of (take (k + 1) (items s))).codes
-  one_more = laid ∙ ap₂ (λ c x. set c k x) is.are (said ∙ ap (code_of of) (item is.here is.till)) ∙ row_more of (items s) k
-
-  pub filled_on : {next : ℕ} → next ≡ end + 1 + before 44 (drop (end + 1) s) → end < length s → Filled of s more (k + 1) (end + 1) next
-  filled_on till inside = filled (stands_next is.here is.till (λ e. omega arith)) till one_more
-
-  pub filled_end : length s ≤ end → ◌≡◌ {A = Row} (record { count = k + 1; codes = more }) (row_of of (items s))
+  -- an item beyond the last room
+  pub filled_full : {more : List ℕ} → more ≡ codes → 64 ≤ k → Filled of s more (k + 1)
   unfolding row_of
-  filled_end done =
-      let all : k + 1 ≡ length (items s) = omega (arith, counts is.here is.till) in
-      let whole : take (k + 1) (items s) ≡ items s = rw all (take-length (items s)) in
-      ap₂ (λ n c. record { count = n; codes = c }) all (one_more ∙ ap (λ l. (row_of of l).codes) whole)
+  filled_full e h =
+      let rooms : length codes ≡ 64 = ap length are ∙ length_table 64 (λ i. code_of of (at (take k (items s)) i)) in
+      e ∙ sym (set_out codes k (code_of of (at (items s) k)) (omega arith)) ∙ filled_on (ap (code_of of) (sym is)) refl
+
+pub filled_end : (of : Of) (s : List ℕ) {codes : List ℕ} {k : ℕ} → k ≡ length (items s) → Filled of s codes k
+    → ◌≡◌ {A = Row} (record { count = k; codes = codes }) (row_of of (items s))
+unfolding row_of
+filled_end of s {k = k} all are =
+    let whole : take k (items s) ≡ items s = rw all (take-length (items s)) in
+    ap₂ (λ n c. record { count = n; codes = c }) all (are ∙ ap (λ l. (row_of of l).codes) whole)

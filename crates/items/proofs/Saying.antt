@@ -1,15 +1,16 @@
 -- What single items say: when two texts are the same, which names an item can be, and which numbers.
 use Prim.Native.Nat.{ℕ, zero, suc, ◌+◌, ◌-◌, ◌/◌, ◌%◌, ◌<◌, ◌≤◌}
-use mathlib.Core.Bool.{Bool, true, false, cond, ◌&&◌, ◌||◌, true≢false, and-eq-true_iff, and-false, or-true}
+use mathlib.Core.Bool.{Bool, true, false, cond, ◌&&◌, ◌||◌, true≢false, and-eq-true_iff, or-true}
 use mathlib.Core.List.{List, [], ◌∷◌}
 use Rattle.std.specs.Prelude.{Option, Some, None}
 use mathlib.Core.Path.{◌≡◌, refl, sym, ap, ap₂, ◌∙◌}
 use native.Mathlib.Numerals.{add-one}
 use native.Mathlib.Omega.{arith}
 use lib.Dec.{eqb, ltb}
-use lib.ListN.{length, get_or, drop, drop_of_length-le}
+use lib.ListN.{length, get_or, drop}
 use lib.Seq.{drop-cons}
 use borrow.Author.Tests.{eq-eqb, ne_eqb, eqb-true, ltb-true, ltb-false}
+use Rattle.std.specs.Str.{bytes_eq}
 use Rattle.plan.specs.Known.{among, predictors, encodings}
 use Rattle.plan.proofs.Codes.{predictor_below as below_12}
 use Rattle.items.specs.Rows.{name_code}
@@ -31,38 +32,9 @@ same_equal (x ∷ s) (y ∷ t) e =
 pub same_one : (s t u : List ℕ) → same t u ≡ false → same s t ≡ true → same s u ≡ false
 same_one s t u n e = rw (same_equal s t e) n
 
--- ## The same, byte by byte
-
-pub lengths_differ : (s t : List ℕ) → (length s ≡ length t → ⊥) → false ≡ same s t
-unfolding same
-lengths_differ [] [] h = absurd (h refl)
-lengths_differ [] (y ∷ t) h = refl
-lengths_differ (x ∷ s) [] h = refl
-lengths_differ (x ∷ s) (y ∷ t) h = rw (← lengths_differ s t (λ e. h (ap suc e)), and-false)
-
 -- the byte at i, and what lies behind it
 pub drop_step : (s : List ℕ) (i : ℕ) → i < length s → drop i s ≡ get_or s i 0 ∷ drop (i + 1) s
 drop_step s i h = rw (add-one, drop-cons s i 0)
-
--- two texts are alike up to i: they are the same just if what is left of them is
-pub record Alike (s t : List ℕ) (i : ℕ) : Type 0 where
-  pub is : same s t ≡ same (drop i s) (drop i t)
-
-pub alike_first : (s t : List ℕ) → Alike s t 0
-alike_first s t = record { is = refl }
-
-module _ (s t : List ℕ) (i : ℕ) (alike : Alike s t i) where
-  pub alike_on : get_or s i 0 ≡ get_or t i 0 → (i < length s) × (i < length t) → Alike s t (i + 1)
-  unfolding same
-  alike_on e h = record { is = alike.is ∙ rw (drop_step s i h.0, drop_step t i h.1, eq-eqb _ _ e) }
-
-  pub alike_differ : (get_or s i 0 ≡ get_or t i 0 → ⊥) → (i < length s) × (i < length t) → false ≡ same s t
-  unfolding same
-  alike_differ n h = sym (alike.is ∙ rw (drop_step s i h.0, drop_step t i h.1, ne_eqb _ _ n))
-
-  pub alike_end : (length s ≤ i) × (length t ≤ i) → true ≡ same s t
-  unfolding same
-  alike_end h = sym (alike.is ∙ rw (drop_of_length-le s h.0, drop_of_length-le t h.1))
 
 -- ## Names
 
@@ -94,6 +66,26 @@ module _ (item : List ℕ) where
 
   pub motor_code : eqb (name_code item) 3 ≡ same item (ascii "motor[0]")
   motor_code = names.2
+
+  -- what the code's tests tell, in their order
+  module _ {p : Bool} (is_p : p ≡ bytes_eq item (ascii "loopIteration")) where
+    pub iteration_named : p ≡ true → 1 ≡ name_code item
+    unfolding name_code same
+    iteration_named e = rw (sym is_p ∙ e)
+
+    module _ (not_p : p ≡ false) {q : Bool} (is_q : q ≡ bytes_eq item (ascii "time")) where
+      pub time_named : q ≡ true → 2 ≡ name_code item
+      unfolding name_code same
+      time_named e = rw (sym is_p ∙ not_p, sym is_q ∙ e)
+
+      module _ (not_q : q ≡ false) {r : Bool} (is_r : r ≡ bytes_eq item (ascii "motor[0]")) where
+        pub motor_named : r ≡ true → 3 ≡ name_code item
+        unfolding name_code same
+        motor_named e = rw (sym is_p ∙ not_p, sym is_q ∙ not_q, sym is_r ∙ e)
+
+        pub no_name_named : r ≡ false → 0 ≡ name_code item
+        unfolding name_code same
+        no_name_named e = rw (sym is_p ∙ not_p, sym is_q ∙ not_q, sym is_r ∙ e)
 
 -- ## Numbers
 

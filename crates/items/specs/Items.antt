@@ -1,17 +1,12 @@
 -- The items of a comma-separated text (document 01, "Definition lists"), and where each stands.
-use Rattle.std.specs.Prelude.{ℕ, zero, suc, ◌+◌, ◌-◌, Bool, true, false, cond, ◌&&◌, List, [], ◌∷◌, Option, Some, None, eqb, ltb, leb, length, get_or, take, drop}
+use Rattle.std.specs.Prelude.{ℕ, zero, suc, ◌+◌, ◌-◌, Bool, false, cond, ◌&&◌, List, [], ◌∷◌, Option, Some, None, eqb, ltb, leb, length, get_or, take, drop}
+use Rattle.std.specs.List.{slice_split}
 use Rattle.std.specs.Option.{is_none}
 use Rattle.items.specs.declared.Stretch.{Stretch}
 
--- a byte in front of the first item; there always is one
-abbrev pub onto : ℕ → List (List ℕ) → List (List ℕ)
-onto b [] = []
-onto b (i ∷ r) = (b ∷ i) ∷ r
-
 -- an empty text is one empty item; a comma ends an item, any other byte belongs to one
 unfoldable pub items : List ℕ → List (List ℕ)
-items [] = [] ∷ []
-items (b ∷ t) = cond (eqb b 44) ([] ∷ items t) (onto b (items t))
+items t = slice_split (λ b. eqb b 44) t
 
 -- item k, and an empty one where there is none
 abbrev pub at : List (List ℕ) → ℕ → List ℕ

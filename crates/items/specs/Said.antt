@@ -1,5 +1,5 @@
 -- What a single item says (document 01, "Definition lists").
-use Rattle.std.specs.Prelude.{ℕ, ◌+◌, ◌/◌, ◌%◌, Bool, true, false, cond, ◌&&◌, ◌||◌, List, [], ◌∷◌, Option, Some, None, eqb, ltb, leb}
+use Rattle.std.specs.Prelude.{ℕ, ◌+◌, ◌/◌, ◌%◌, Bool, cond, ◌&&◌, ◌||◌, List, [], ◌∷◌, Option, Some, None, eqb, ltb, leb}
 use Rattle.std.specs.Option.{is_none, unwrap_or}
 use Rattle.plan.specs.Known.{predictors, encodings}
 use Rattle.items.specs.Text.{ascii, same}

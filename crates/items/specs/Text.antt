@@ -1,6 +1,7 @@
 -- Texts as bytes, and whether two are the same.
 use Prim.Native.Char.{code}
-use Rattle.std.specs.Prelude.{ℕ, Bool, true, false, ◌&&◌, List, [], ◌∷◌, eqb}
+use Rattle.std.specs.Prelude.{ℕ, Bool, List, [], ◌∷◌}
+use Rattle.std.specs.Str.{bytes_eq}
 use Prim.Native.String.{String, [] as []ˢ, ◌∷◌ as ◌∷ˢ◌}
 
 -- the bytes of a quoted text; every one here is ASCII, a byte to a character
@@ -10,7 +11,4 @@ ascii (c ∷ˢ s) = code c ∷ ascii s
 
 -- the same bytes
 unfoldable pub same : List ℕ → List ℕ → Bool
-same [] [] = true
-same [] (y ∷ t) = false
-same (x ∷ s) [] = false
-same (x ∷ s) (y ∷ t) = eqb x y && same s t
+same s t = bytes_eq s t

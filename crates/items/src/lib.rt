@@ -2,14 +2,12 @@
 // The Rust splits a list lazily and zips the pieces; here a list is read once, into a row, and the rounds run over rows.
 #![tactic(auto)]
 
-ghost use Rattle.std.specs.Prelude.{◌≡◌, ◌+◌, ◌≤◌, true, false, length, drop, set, MatchOption};
-ghost use Rattle.digits.specs.Digits.{before};
+ghost use Rattle.std.specs.Prelude.{◌≡◌, true, false, MatchOption};
 ghost use Rattle.items.specs.Items.{given, part};
 ghost use Rattle.items.specs.Owes.{ReadRowOwes, ItemAtOwes, IsAbsentOwes, IsGivenOwes, PartOwes};
 
 mod said;
 
-use digits::until;
 use said::code;
 
 // A stretch of a text, from its first byte to behind its last.
@@ -46,7 +44,7 @@ pub struct Lists {
     pub slow: SlowLists,
 }
 
-// What a list is a list of.
+// What a list is a list of: a switch, and not a reader that is handed in, since `ReadRowOwes` says by it what the row holds.
 #[derive(Clone, Copy)]
 pub enum Of {
     Names,
@@ -55,7 +53,7 @@ pub enum Of {
     Signs,
 }
 
-// The code of an item that is no predictor, or no encoding; a known one is its own number.
+// The code of an item that is no predictor, or no encoding; a known one is its own number. A byte, and no Option: it goes into a definition as it is.
 pub const UNKNOWN: u8 = 255;
 
 // The codes of the names that the rules speak of; any other name is 0.
@@ -72,66 +70,34 @@ pub struct Row {
     pub codes: [u8; 64],
 }
 
-// Where the item that starts at `from` ends: at the next comma, or at the end of the text.
-fn item_end(text: &[u8], from: usize) -> usize
-    requires { from ≤ length text.now }
-    ensures { result ≡ from + before 44 (drop from text.now) }
-{
-    from + until(&text[from..], b',')
-}
-
-// The codes of a row with another in a room; there are 64 rooms, and what lies beyond is dropped.
-fn put(codes: [u8; 64], k: usize, code: u8) -> [u8; 64]
-    ensures { result ≡ set codes k code }
-{
-    let mut more = codes;
-    if k < 64 {
-        more[k] = code;
-        return more;
-    }
-    more
-}
-
 // The row of a list, in one pass over its text.
 pub fn read_row(text: &[u8], of: Of) -> Row
     ensures { ReadRowOwes text.now of result }
 {
-    let mut codes = [code(&text[..0], of); 64];
-    let mut count: usize = 0;
-    let mut from: usize = 0;
-    let mut end = item_end(text, 0);
-    while end < text.len() {
-        let more = put(codes, count, code(&text[from..end], of));
-        codes = more;
+    let mut codes = [code(b"", of); 64];
+    let mut count = 0;
+    for item in text.split(|b| *b == b',') {
+        if count < 64 {
+            codes[count] = code(item, of);
+        }
         count += 1;
-        from = end + 1;
-        end = item_end(text, from);
     }
-    let last = put(codes, count, code(&text[from..end], of));
-    Row {
-        count: count + 1,
-        codes: last,
-    }
+    Row { count, codes }
 }
 
 // Where item `k` stands.
 pub fn item_at(text: &[u8], k: usize) -> Option<Stretch>
     ensures { ItemAtOwes text.now k result }
 {
-    let mut from: usize = 0;
-    let mut j: usize = 0;
-    while j < k {
-        let end = item_end(text, from);
-        if end == text.len() {
-            return None;
+    let mut start = 0;
+    for (j, item) in text.split(|b| *b == b',').enumerate() {
+        let end = start + item.len();
+        if j == k {
+            return Some(Stretch { start, end });
         }
-        from = end + 1;
-        j += 1;
+        start = end + 1;
     }
-    Some(Stretch {
-        start: from,
-        end: item_end(text, from),
-    })
+    None
 }
 
 // Whether there is no stretch: one that does not lie in its text is none that is absent.

@@ -2,55 +2,54 @@
 // A name is a stretch of the lent list; where it stands is a separate answer, which tells an empty name from none.
 #![tactic(auto)]
 
-ghost use Rattle.std.specs.Prelude.{cond, ◌≡◌, ltb};
-ghost use Rattle.items.specs.declared.Stretch.TheVariants.{Absent};
-ghost use Rattle.items.specs.Items.{item_at};
+ghost use Rattle.std.specs.Prelude.{◌≡◌};
+ghost use Rattle.names.specs.Names.{item_count, chosen};
 ghost use Rattle.names.specs.Owes.{NameAtOwes, FieldNameOwes};
 
 use items::Stretch;
-use plan::Definition;
+use plan::{Definition, Sort};
 
-// Which of a log's definitions a field belongs to.
-#[derive(Clone, Copy)]
-pub enum Kind {
-    Main,
-    Slow,
+fn item_count(d: Definition, sort: Sort) -> usize
+    ensures { result ≡ item_count d sort }
+{
+    match sort {
+        Sort::Main => d.main.n,
+        Sort::Slow => d.slow.n,
+    }
 }
 
-// Where item `k` stands, of the first `n`.
-fn item_of(list: &[u8], n: usize, k: usize) -> Stretch
-    ensures { result ≡ cond (ltb k n) (item_at list.now k) Absent }
+// The list of a sort.
+fn chosen<'a>(sort: Sort, main: &'a [u8], slow: &'a [u8]) -> &'a [u8]
+    ensures { result.now ≡ chosen sort main.now slow.now }
 {
-    if k < n {
-        items::item_at(list, k)
+    match sort {
+        Sort::Main => main,
+        Sort::Slow => slow,
+    }
+}
+
+// Where the name of field `k` stands in the list of its sort. Fields are numbered from the list's first item, 0.
+#[tactic(auto, using(crate::proofs::Names::name_here, crate::proofs::Names::no_name))]
+pub fn name_at(d: Definition, sort: Sort, main: &[u8], slow: &[u8], k: usize) -> Option<Stretch>
+    ensures { NameAtOwes d sort main.now slow.now k result }
+{
+    if k < item_count(d, sort) {
+        items::item_at(chosen(sort, main, slow), k)
     } else {
-        Stretch::Absent
+        None
     }
 }
 
-// Where the name of field `k` stands in the list of its kind. Fields are numbered from the list's first item, 0.
-pub fn name_at(d: Definition, kind: Kind, main: &[u8], slow: &[u8], k: usize) -> Stretch
-    ensures { NameAtOwes d kind main.now slow.now k result }
-{
-    match kind {
-        Kind::Main => item_of(main, d.main.n, k),
-        Kind::Slow => item_of(slow, d.slow.n, k),
-    }
-}
-
-// The name of field `k`, a part of the list of its kind; empty where there is none.
+// The name of field `k`, a part of the list of its sort; empty where there is none.
+#[tactic(auto, using(crate::proofs::Names::field_named))]
 pub fn field_name<'a>(
     d: Definition,
-    kind: Kind,
+    sort: Sort,
     main: &'a [u8],
     slow: &'a [u8],
     k: usize,
 ) -> &'a [u8]
-    ensures { FieldNameOwes d kind main.now slow.now k result.now }
+    ensures { FieldNameOwes d sort main.now slow.now k result.now }
 {
-    let stretch = name_at(d, kind, main, slow, k);
-    match kind {
-        Kind::Main => items::part(main, stretch),
-        Kind::Slow => items::part(slow, stretch),
-    }
+    items::part(chosen(sort, main, slow), name_at(d, sort, main, slow, k))
 }

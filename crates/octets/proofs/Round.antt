@@ -1,9 +1,9 @@
 -- What is stored is loaded, and what is loaded from bytes has the size of its number.
 use Prim.Native.Nat.{ℕ, zero, suc, ◌+◌, ◌*◌, ◌/◌, ◌%◌, ◌<◌}
-use mathlib.Core.Path.{◌≡◌, refl, sym, ap, ap₂, ◌∙◌}
+use mathlib.Core.Path.{◌≡◌, refl, ap, ap₂, ◌∙◌}
 use mathlib.Core.List.{List, [], ◌∷◌, ◌++◌}
 use native.Mathlib.Omega.{arith}
-use native.Mathlib.Nat.{div-div-eq-div-mul, div-add-mod', mod-eq_of_lt}
+use Rattle.std.proofs.lemmas.Nat.{from_le_bytes-to_le_bytes_4}
 use lib.ListN.{length, get_or, drop}
 use lib.Seq.{get_or-drop}
 use Rattle.octets.specs.Bytes.{le32, le64, words, num32, num64, nums}
@@ -17,20 +17,9 @@ Small (v ∷ vs) = (v < 4294967296) × Small vs
 abbrev pub Bytes : List ℕ → Type 0
 Bytes bs = (i : ℕ) → get_or bs i 0 < 256
 
--- a number of 32 bits is the sum of its four digits, each weighed by its place
-digits : (v : ℕ) → v < 4294967296 → v % 256 + v / 256 % 256 * 256 + v / 65536 % 256 * 65536 + v / 16777216 % 256 * 16777216 ≡ v
-digits v h =
-    let y : v / 65536 ≡ v / 256 / 256 = sym (div-div-eq-div-mul v 256 256) in
-    let z : v / 16777216 ≡ v / 256 / 256 / 256 = sym (ap (λ (x : ℕ). x / 256) (div-div-eq-div-mul v 256 256) ∙ div-div-eq-div-mul v 65536 256) in
-    let a = div-add-mod' v 256 in
-    let b = div-add-mod' (v / 256) 256 in
-    let c = div-add-mod' (v / 256 / 256) 256 in
-    let m : v / 256 / 256 / 256 % 256 ≡ v / 256 / 256 / 256 = mod-eq_of_lt (omega arith) in
-    rw (y, z, m) (omega arith)
-
 pub num_le : (v : ℕ) (rest : List ℕ) → v < 4294967296 → num32 (le32 v ++ rest) ≡ v
 unfolding num32 le32
-num_le v rest h = digits v h
+num_le v rest h = from_le_bytes-to_le_bytes_4 v h
 
 pub num_le64 : (v : ℕ) (rest : List ℕ) → v < 18446744073709551616 → num64 (le64 v ++ rest) ≡ v
 unfolding num64 le64 le32
@@ -40,7 +29,7 @@ num_le64 v rest h =
     ap₂ (λ (x y : ℕ). x + y * 4294967296) a b ∙ (let q : v % 4294967296 + v / 4294967296 * 4294967296 ≡ v = omega arith in q)
 
 pub nums_words : (vs rest : List ℕ) → Small vs → nums (length vs) (words vs ++ rest) ≡ vs
-unfolding nums words le32
+unfolding nums le32
 nums_words [] rest s = refl
 nums_words (v ∷ vs) rest s = ap₂ (λ (x : ℕ) (l : List ℕ). x ∷ l) (num_le v (words vs ++ rest) s.0) (nums_words vs rest s.1)
 

@@ -1,5 +1,6 @@
 -- Numbers as bytes, low byte first.
 use Rattle.std.specs.Prelude.{ℕ, zero, suc, ◌+◌, ◌*◌, ◌/◌, ◌%◌, List, [], ◌∷◌, ◌++◌, get_or, drop}
+use Rattle.std.specs.List.{flat_map}
 
 -- a number of 32 bits in four bytes
 unfoldable pub le32 : ℕ → List ℕ
@@ -10,14 +11,12 @@ unfoldable pub le64 : ℕ → List ℕ
 le64 v = le32 (v % 4294967296) ++ le32 (v / 4294967296)
 
 -- numbers of 32 bits, one behind the other
-unfoldable pub words : List ℕ → List ℕ
-words [] = []
-words (v ∷ vs) = le32 v ++ words vs
+abbrev pub words : List ℕ → List ℕ
+words = flat_map le32
 
 -- numbers of 64 bits, one behind the other
-unfoldable pub longs : List ℕ → List ℕ
-longs [] = []
-longs (v ∷ vs) = le64 v ++ longs vs
+abbrev pub longs : List ℕ → List ℕ
+longs = flat_map le64
 
 -- the number in the first four bytes
 unfoldable pub num32 : List ℕ → ℕ

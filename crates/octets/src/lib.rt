@@ -2,100 +2,94 @@
 // Places are the caller's to have: each function asks that its bytes lie within the buffer.
 #![tactic(auto)]
 
-ghost use Rattle.std.specs.Prelude.{◌≡◌, ◌+◌, ◌*◌, ◌/◌, ◌%◌, ◌≤◌, ◌<◌, length, take, drop};
+ghost use Rattle.std.specs.Prelude.{ℕ, List, ◌≡◌, ◌+◌, ◌*◌, ◌≤◌, length, take, drop};
+ghost use Rattle.std.specs.List.{flat_map};
 ghost use Rattle.std.proofs.lemmas.List.Edits.{sets};
-ghost use Rattle.octets.specs.Bytes.{le32, le64, words, longs, num32, num64, nums};
+ghost use Rattle.octets.specs.Bytes.{le32, le64, num32, num64, nums};
+ghost use Rattle.octets.specs.Widths.{length_le32, length_le64};
 
-fn low(x: u32) -> u8
-    ensures { result ≡ x % 256 }
-{
-    (x % 256) as u8
-}
-
-fn wide(x: u8) -> u32
-    ensures { (result ≡ x) × (result < 256) }
-{
-    x as u32
-}
-
+#[tactic(auto, using(crate::proofs::Stores::written, crate::proofs::Stores::le32_is))]
 pub fn put32(buf: &mut [u8], at: usize, v: u32)
     requires { at + 4 ≤ length buf.old }
     ensures { buf.new ≡ sets buf.old at (le32 v) }
 {
-    buf[at] = low(v);
-    buf[at + 1] = low(v / 256);
-    buf[at + 2] = low(v / 65536);
-    buf[at + 3] = low(v / 16777216);
+    buf[at..at + 4].copy_from_slice(&v.to_le_bytes());
 }
 
+#[tactic(auto, using(crate::proofs::Loads::num_at))]
 pub fn take32(buf: &[u8], at: usize) -> u32
     requires { at + 4 ≤ length buf.now }
     ensures { result ≡ num32 (drop at buf.now) }
 {
-    wide(buf[at])
-        + wide(buf[at + 1]) * 256
-        + wide(buf[at + 2]) * 65536
-        + wide(buf[at + 3]) * 16777216
+    u32::from_le_bytes([buf[at], buf[at + 1], buf[at + 2], buf[at + 3]])
 }
 
-fn low32(v: u64) -> u32
-    ensures { result ≡ v % 4294967296 }
-{
-    (v % 4294967296) as u32
-}
-
-fn high32(v: u64) -> u32
-    ensures { result ≡ v / 4294967296 }
-{
-    (v / 4294967296) as u32
-}
-
-fn wide64(x: u32) -> u64
-    ensures { (result ≡ x) × (result < 4294967296) }
-{
-    x as u64
-}
-
+#[tactic(auto, using(crate::proofs::Stores::written, crate::proofs::Stores::le64_is))]
 pub fn put64(buf: &mut [u8], at: usize, v: u64)
     requires { at + 8 ≤ length buf.old }
     ensures { buf.new ≡ sets buf.old at (le64 v) }
 {
-    put32(buf, at, low32(v));
-    put32(buf, at + 4, high32(v));
+    buf[at..at + 8].copy_from_slice(&v.to_le_bytes());
 }
 
+#[tactic(auto, using(crate::proofs::Loads::take_long))]
 pub fn take64(buf: &[u8], at: usize) -> u64
     requires { at + 8 ≤ length buf.now }
     ensures { result ≡ num64 (drop at buf.now) }
 {
-    wide64(take32(buf, at)) + wide64(take32(buf, at + 4)) * 4294967296
+    u64::from(take32(buf, at)) + u64::from(take32(buf, at + 4)) * 4294967296
 }
 
-// Values, four bytes each.
-pub fn put_values(buf: &mut [u8], at: usize, values: &[u32])
-    requires { at + 4 * length values.now ≤ length buf.old }
-    ensures { buf.new ≡ sets buf.old at (words values.now) }
-{
-    let mut i: usize = 0;
-    let mut j = at;
-    while i < values.len() {
-        put32(buf, j, values[i]);
-        j += 4;
-        i += 1;
+// A number of a fixed width in bytes.
+pub trait Number: Copy {
+    ghost WIDTH: { ℕ };
+
+    ghost bytes: { Self → List ℕ };
+
+    const WIDTH: usize;
+
+    fn put(self, buf: &mut [u8], at: usize)
+        requires { at + WIDTH ≤ length buf.old }
+        ensures { buf.new ≡ sets buf.old at (bytes self) };
+
+    ghost width: { (v : Self) → length (bytes v) ≡ WIDTH };
+}
+
+impl Number for u32 {
+    ghost WIDTH = { 4 };
+
+    ghost bytes = { le32 };
+
+    const WIDTH: usize = 4;
+
+    ghost width = { length_le32 };
+
+    fn put(self, buf: &mut [u8], at: usize) {
+        put32(buf, at, self);
     }
 }
 
-// Numbers, eight bytes each.
-pub fn put_longs(buf: &mut [u8], at: usize, numbers: &[u64])
-    requires { at + 8 * length numbers.now ≤ length buf.old }
-    ensures { buf.new ≡ sets buf.old at (longs numbers.now) }
+impl Number for u64 {
+    ghost WIDTH = { 8 };
+
+    ghost bytes = { le64 };
+
+    const WIDTH: usize = 8;
+
+    ghost width = { length_le64 };
+
+    fn put(self, buf: &mut [u8], at: usize) {
+        put64(buf, at, self);
+    }
+}
+
+// Values of four bytes each, or of eight.
+pub fn put_values<T: Number>(buf: &mut [u8], at: usize, values: &[T])
+    requires { at + T.WIDTH * length values.now ≤ length buf.old }
+    ensures { buf.new ≡ sets buf.old at (flat_map T.bytes values.now) }
 {
-    let mut i: usize = 0;
-    let mut j = at;
-    while i < numbers.len() {
-        put64(buf, j, numbers[i]);
-        j += 8;
-        i += 1;
+    for (i, v) in values.iter().enumerate() {
+        v.put(buf, at + T::WIDTH * i);
     }
 }
 
@@ -104,24 +98,17 @@ pub fn take_values(buf: &[u8], at: usize, values: &mut [u32])
     requires { at + 4 * length values.old ≤ length buf.now }
     ensures { values.new ≡ nums (length values.old) (drop at buf.now) }
 {
-    let mut i: usize = 0;
-    let mut j = at;
-    while i < values.len() {
-        values[i] = take32(buf, j);
-        j += 4;
-        i += 1;
+    for (i, v) in values.iter_mut().enumerate() {
+        *v = take32(buf, at + 4 * i);
     }
 }
 
+#[tactic(auto, using(crate::proofs::Stores::written))]
 pub fn put_bytes(buf: &mut [u8], at: usize, bytes: &[u8])
     requires { at + length bytes.now ≤ length buf.old }
     ensures { buf.new ≡ sets buf.old at bytes.now }
 {
-    let mut i: usize = 0;
-    while i < bytes.len() {
-        buf[at + i] = bytes[i];
-        i += 1;
-    }
+    buf[at..at + bytes.len()].copy_from_slice(bytes);
 }
 
 // As many bytes as the lent array has places.
@@ -129,9 +116,5 @@ pub fn take_bytes(buf: &[u8], at: usize, bytes: &mut [u8])
     requires { at + length bytes.old ≤ length buf.now }
     ensures { bytes.new ≡ take (length bytes.old) (drop at buf.now) }
 {
-    let mut i: usize = 0;
-    while i < bytes.len() {
-        bytes[i] = buf[at + i];
-        i += 1;
-    }
+    bytes.copy_from_slice(&buf[at..at + bytes.len()]);
 }

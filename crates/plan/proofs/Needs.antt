@@ -1,14 +1,13 @@
 -- Two lists judged field by field, as `known` and `unmet_from` judge them: by index, and as a loop goes about it.
-use Prim.Native.Nat.{ℕ, zero, suc, ◌+◌, ◌<◌, ◌≤◌}
-use mathlib.Core.Bool.{Bool, true, false, cond, not, ◌&&◌, false≢true, and-eq-true_iff}
+use Prim.Native.Nat.{ℕ, zero, suc, ◌+◌, ◌<◌, ◌≤◌, min}
+use mathlib.Core.Bool.{Bool, true, false, cond, ◌&&◌, false≢true, and-eq-true_iff}
 use mathlib.Core.List.{List, [], ◌∷◌}
 use mathlib.Core.Path.{◌≡◌, refl, sym, ◌∙◌}
 use native.Mathlib.Nat.{add-zero, zero-add}
 use native.Mathlib.Numerals.{add-one}
 use native.Mathlib.Omega.{arith}
-use lib.ListN.{length, drop, get_or, drop_of_length-le}
-use lib.Seq.{drop-cons}
-use borrow.Author.Tests.{not-true, not-false}
+use lib.ListN.{length, take, drop, get_or, drop_of_length-le, length-take}
+use lib.Seq.{drop-cons, get_or-take}
 use Rattle.std.specs.Prelude.{Option, Some, None}
 use Rattle.plan.specs.declared.Numbers.{Numbers}
 use Rattle.plan.specs.Known.{among, predictors, encodings}
@@ -94,31 +93,40 @@ unmet_below numbers motor i (p ∷ ps) (q ∷ qs) {j} e = either (met numbers mo
 
 -- ## As a loop goes about it
 
--- the fields before i pass, so that the rest decides
-pub record Passed {R : Type 0} (whole : R) (a b : ℕ → ℕ → Bool) (done : R) (stop : ℕ → R) (ps qs : List ℕ) (i : ℕ) : Type 0 where
-  pub is : whole ≡ judged a b done stop i (drop i ps) (drop i qs)
+-- of the first n fields, those before i pass, so that the rest decides
+pub record Passed {R : Type 0} (whole : R) (a b : ℕ → ℕ → Bool) (done : R) (stop : ℕ → R) (n : ℕ) (ps qs : List ℕ) (i : ℕ) : Type 0 where
+  pub is : whole ≡ judged a b done stop i (drop i (take n ps)) (drop i (take n qs))
 
-module _ {R : Type 0} {whole : R} {a b : ℕ → ℕ → Bool} {done : R} {stop : ℕ → R} {ps qs : List ℕ} {i : ℕ} (before : Passed whole a b done stop ps qs i) where
+module _ {R : Type 0} {whole : R} {a b : ℕ → ℕ → Bool} {done : R} {stop : ℕ → R} {n : ℕ} {ps qs : List ℕ} {i : ℕ} (before : Passed whole a b done stop n ps qs i) where
   -- field i, and what lies behind it
-  next : i < length ps → length ps ≡ length qs
-      → whole ≡ cond (a i (get_or ps i 0) && b i (get_or qs i 0)) (judged a b done stop (i + 1) (drop (i + 1) ps) (drop (i + 1) qs)) (stop i)
+  next : i < n → i < length ps → i < length qs
+      → whole
+      ≡ cond (a i (get_or ps i 0) && b i (get_or qs i 0)) (judged a b done stop (i + 1) (drop (i + 1) (take n ps)) (drop (i + 1) (take n qs))) (stop i)
   unfolding judged
-  next h e = before.is ∙ rw (drop-cons ps i 0 h, drop-cons qs i 0 (omega arith), add-one i)
+  next h k l =
+      before.is
+      ∙ rw (
+        drop-cons (take n ps) i 0 (omega (arith, length-take n ps)),
+        drop-cons (take n qs) i 0 (omega (arith, length-take n qs)),
+        get_or-take n ps i 0 h,
+        get_or-take n qs i 0 h,
+        add-one i,
+      )
 
   -- field i passes
-  pub passed_on : {r t : Bool} → r ≡ a i (get_or ps i 0) → not r ≡ false → t ≡ b i (get_or qs i 0) → not t ≡ false
-      → i < length ps → length ps ≡ length qs → Passed whole a b done stop ps qs (i + 1)
-  passed_on {r} {t} e f g k h l = record { is = next h l ∙ rw (sym e ∙ not-false r f, sym g ∙ not-false t k) }
+  pub passed_on : {r t : Bool} → r ≡ a i (get_or ps i 0) → r ≡ true → t ≡ b i (get_or qs i 0) → t ≡ true
+      → (i < n) × (i < length ps) × (i < length qs) → Passed whole a b done stop n ps qs (i + 1)
+  passed_on e f g k h = record { is = next h.0 h.1 h.2 ∙ rw (sym e ∙ f, sym g ∙ k) }
 
   -- it fails the first test, or the second
-  pub first_fails : {r : Bool} → r ≡ a i (get_or ps i 0) → not r ≡ true → i < length ps → length ps ≡ length qs → stop i ≡ whole
-  first_fails {r} e f h l = sym (next h l ∙ rw (sym e ∙ not-true r f))
+  pub first_fails : {r : Bool} → r ≡ a i (get_or ps i 0) → r ≡ false → (i < n) × (i < length ps) × (i < length qs) → stop i ≡ whole
+  first_fails e f h = sym (next h.0 h.1 h.2 ∙ rw (sym e ∙ f))
 
-  pub second_fails : {r t : Bool} → r ≡ a i (get_or ps i 0) → not r ≡ false → t ≡ b i (get_or qs i 0) → not t ≡ true
-      → i < length ps → length ps ≡ length qs → stop i ≡ whole
-  second_fails {r} {t} e f g k h l = sym (next h l ∙ rw (sym e ∙ not-false r f, sym g ∙ not-true t k))
+  pub second_fails : {r t : Bool} → r ≡ a i (get_or ps i 0) → r ≡ true → t ≡ b i (get_or qs i 0) → t ≡ false
+      → (i < n) × (i < length ps) × (i < length qs) → stop i ≡ whole
+  second_fails e f g k h = sym (next h.0 h.1 h.2 ∙ rw (sym e ∙ f, sym g ∙ k))
 
   -- there is no field i
-  pub passed_all : length ps ≤ i → done ≡ whole
+  pub passed_all : min n (length ps) ≤ i → done ≡ whole
   unfolding judged
-  passed_all h = sym (before.is ∙ rw (drop_of_length-le ps h))
+  passed_all h = let none_left : length (take n ps) ≤ i = omega (arith, length-take n ps) in sym (before.is ∙ rw (drop_of_length-le (take n ps) none_left))

@@ -1,7 +1,7 @@
 -- How long a definition's arrays are, out of what owning it tells, and that a count over their rooms takes them all.
-use Prim.Native.Nat.{ℕ, zero, suc, ◌+◌, ◌<◌, ◌≤◌, min}
+use Prim.Native.Nat.{ℕ, zero, suc, ◌<◌, min}
 use mathlib.Core.List.{List, [], ◌∷◌}
-use mathlib.Core.Path.{◌≡◌, sym, ap, ap₂, ◌∙◌}
+use mathlib.Core.Path.{◌≡◌, sym, ap, ◌∙◌}
 use native.Mathlib.Nat.{zero-min, suc-min-suc}
 use native.Mathlib.Omega.{arith}
 use mir.Val.{Val}
@@ -11,12 +11,10 @@ use denote.Struct.Field.{u8-field, array_field}
 use lib.ListN.{length, take, length-take}
 use lib.Seq.{take-nil}
 use Rattle.plan.specs.declared.Main.{Main}
-use Rattle.std.specs.Prelude.{Option, Some, None}
-use Rattle.std.specs.Option.{MatchOption, IsSomeAnd}
+use Rattle.std.specs.Prelude.{Option, Some}
 use Rattle.plan.specs.declared.Numbers.{Numbers}
 use Rattle.plan.specs.declared.Slow.{Slow}
-use Rattle.plan.specs.Plan.{fields}
-use Rattle.plan.specs.Sound.{unmet_from, behind_time, unmet_main, unmet_slow}
+use Rattle.plan.specs.Sound.{unmet_from}
 use Rattle.plan.proofs.Needs.{unmet_below}
 use Rattle.plan.specs.contracts.Main as main
 use Rattle.plan.specs.contracts.Slow as slow
@@ -68,27 +66,5 @@ front_all k f n l e rooms = ap (λ x. take x l) (e ∙ ap (min f) (sym rooms)) �
 
 -- a field that lacks something stands in one of the rooms
 pub unmet_inside : (numbers : Numbers) (motor k : ℕ) (ps qs : List ℕ) {r : Option ℕ} {i : ℕ}
-    → r ≡ unmet_from numbers motor 0 (take k ps) qs → r ≡ Some i → k ≤ 62 → i < 62
-unmet_inside numbers motor k ps qs e is h = omega (arith, unmet_below numbers motor 0 (take k ps) qs (sym e ∙ is), length-take k ps)
-
--- what numbering it from the first item tells
-pub numbered : (o r : Option ℕ) (Q : ℕ → ℕ → Type 0) → MatchOption o (r ≡ None) (λ i. IsSomeAnd r (Q i)) → ((i j : ℕ) → Q i j → j ≡ i + 2)
-    → r ≡ behind_time o
-numbered None r Q h g = h
-numbered (Some i) None Q h g = absurd h
-numbered (Some i) (Some j) Q h g = ap Some (g i j h)
-
-pub main_unmet_is : (m : Main) (numbers : Numbers) {k f : ℕ} {r : Option ℕ} → k ≡ min f 62 → f ≡ fields m
-    → r ≡ unmet_from numbers m.motor 0 (take k m.intra_predictors) (take k m.inter_predictors)
-    → MainRooms m → behind_time r ≡ unmet_main m numbers
-unfolding unmet_main
-main_unmet_is m numbers {k} h g e rooms =
-    let cut : k ≡ min (fields m) 62 = h ∙ ap (λ x. min x 62) g in
-    ap behind_time
-    (e ∙ ap₂ (unmet_from numbers m.motor 0) (front_all k (fields m) 62 _ cut rooms.intra_predictors) (front_all k (fields m) 62 _ cut rooms.inter_predictors))
-
-pub slow_unmet_is : (s : Slow) (numbers : Numbers) {k : ℕ} {r : Option ℕ} → k ≡ min s.n 16
-    → r ≡ unmet_from numbers s.n 0 (take k s.predictors) (take k s.predictors) → SlowRooms s → r ≡ unmet_slow s numbers
-unfolding unmet_slow
-slow_unmet_is s numbers {k} h e rooms =
-    e ∙ ap (λ ps. unmet_from numbers s.n 0 ps ps) (front_all k s.n 16 s.predictors h rooms.slow_predictors)
+    → r ≡ unmet_from numbers motor 0 (take k ps) qs → r ≡ Some i → i < length ps
+unmet_inside numbers motor k ps qs e is = omega (arith, unmet_below numbers motor 0 (take k ps) qs (sym e ∙ is), length-take k ps)

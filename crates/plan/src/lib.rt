@@ -2,11 +2,11 @@
 // The Rust keeps a vector of field records; here each property is an array of 62 rooms (slow: 16), 0 behind the last field.
 #![tactic(auto)]
 
-ghost use Rattle.std.specs.Prelude.{◌≡◌, length};
+ghost use Rattle.std.specs.Prelude.{◌≡◌, take};
 ghost use Rattle.plan.specs.Known.{among, predictors, encodings};
 ghost use Rattle.plan.specs.Owes.{CodeOwes, OfOwes, FieldsOwes, IsIntervalOwes, PlainOwes, NothingOwes};
 ghost use Rattle.plan.specs.Owes.{UnmetMainOwes, UnmetSlowOwes, AreSoundOwes, IsSoundOwes};
-ghost use Rattle.plan.specs.Sound.{met, unmet_from, known, sound_main, sound_slow};
+ghost use Rattle.plan.specs.Sound.{met, unmet_from, known, sound_fields, sound_main, sound_slow};
 
 // The two definitions of a log: which of them a frame, a field or a name belongs to.
 #[derive(Clone, Copy, PartialEq, Eq)]
@@ -16,10 +16,12 @@ pub enum Sort {
 }
 
 // The main frames: the items of each list (0 where refused, 2 with no fields), and the fields behind loopIteration and time.
+// Stays arrays of bytes beside a count: no heap here, C's layout (crate store), and IsSoundOwes speaks of numbers that are no predictor or encoding.
 #[derive(Clone, Copy)]
 pub struct Main {
     pub n: usize,
     // The first field named motor[0], or the number of fields where there is none.
+    // Stays a number: AreSoundOwes takes any, and check 8 asks whether it lies before a field (edit motor_at_its_own_field).
     pub motor: usize,
     pub intra_predictors: [u8; 62],
     pub inter_predictors: [u8; 62],
@@ -47,6 +49,7 @@ pub struct Numbers {
 }
 
 // How often loop iterations are logged: every so many an intra frame, and of so many so many at all.
+// Stays numbers, with 0 for an intra interval that could not be read: C stores it so, and edit intra_interval_of_0 says a wrong thing of it.
 #[derive(Clone, Copy)]
 pub struct FrameInterval {
     pub intra: u32,
@@ -82,22 +85,25 @@ fn is_met(numbers: Numbers, motor: usize, i: usize, p: u8) -> bool
     }
 }
 
-// The first field of two lists of predictors with one that lacks something.
-fn unmet(numbers: Numbers, motor: usize, intra: &[u8], inter: &[u8]) -> Option<usize>
-    requires { length intra.now ≡ length inter.now }
-    ensures { result ≡ unmet_from numbers motor 0 intra.now inter.now }
+// The first of n fields with a predictor that lacks something, by two lists of predictors.
+fn unmet<const N: usize>(
+    numbers: Numbers,
+    motor: usize,
+    n: usize,
+    intra: &[u8; N],
+    inter: &[u8; N],
+) -> Option<usize>
+    ensures { result ≡ unmet_from numbers motor 0 (take n intra.now) (take n inter.now) }
 {
-    for (i, p) in intra.iter().enumerate() {
-        if !is_met(numbers, motor, i, *p) {
-            return Some(i);
-        }
-        if !is_met(numbers, motor, i, inter[i]) {
+    for i in 0..n.min(N) {
+        if !is_met(numbers, motor, i, intra[i]) || !is_met(numbers, motor, i, inter[i]) {
             return Some(i);
         }
     }
     None
 }
 
+#[tactic(auto, using(crate::proofs::Codes::predictor_is))]
 fn is_predictor(code: u8) -> bool
     ensures { result ≡ among predictors code }
 {
@@ -111,16 +117,12 @@ fn is_encoding(code: u8) -> bool
     matches!(code, 0 | 1 | 3 | 6..=9)
 }
 
-// Whether every field has a predictor and an encoding that there is.
-fn are_known(predictors: &[u8], encodings: &[u8]) -> bool
-    requires { length predictors.now ≡ length encodings.now }
-    ensures { result ≡ known predictors.now encodings.now }
+// Whether each of n fields has a predictor and an encoding that there is.
+fn are_known<const N: usize>(n: usize, predictors: &[u8; N], encodings: &[u8; N]) -> bool
+    ensures { result ≡ known (take n predictors.now) (take n encodings.now) }
 {
-    for (i, p) in predictors.iter().enumerate() {
-        if !is_predictor(*p) {
-            return false;
-        }
-        if !is_encoding(encodings[i]) {
+    for i in 0..n.min(N) {
+        if !is_predictor(predictors[i]) || !is_encoding(encodings[i]) {
             return false;
         }
     }
@@ -137,13 +139,22 @@ pub fn are_sound(
 ) -> bool
     ensures { AreSoundOwes n predictors.now encodings.now motor numbers result }
 {
-    if 62 < n {
-        return false;
-    }
-    if !are_known(&predictors[..n], &encodings[..n]) {
-        return false;
-    }
-    unmet(numbers, motor, &predictors[..n], &predictors[..n]).is_none()
+    is_kind_sound(n, predictors, encodings, motor, numbers)
+}
+
+// The same of a kind with N rooms.
+fn is_kind_sound<const N: usize>(
+    n: usize,
+    predictors: &[u8; N],
+    encodings: &[u8; N],
+    motor: usize,
+    numbers: Numbers,
+) -> bool
+    ensures { result ≡ sound_fields N numbers motor n (take n predictors.now) (take n encodings.now) }
+{
+    n <= N
+        && are_known(n, predictors, encodings)
+        && unmet(numbers, motor, n, predictors, predictors).is_none()
 }
 
 // A header number as a number: 65536 stands for an absent one.
@@ -158,6 +169,7 @@ pub fn number_code(number: Option<u16>) -> u32
 }
 
 // And back: whatever needs more than 16 bits is absent.
+#[tactic(auto, using(crate::proofs::Codes::number_told))]
 pub fn number_of(code: u64) -> Option<u16>
     ensures { OfOwes code result }
 {
@@ -169,79 +181,59 @@ impl Main {
     pub fn fields(self) -> usize
         ensures { FieldsOwes self result }
     {
-        if self.n < 2 { 0 } else { self.n - 2 }
+        self.n.saturating_sub(2)
     }
 
     // The field is numbered from the list's first item, two before the first field.
+    #[tactic(auto, unfolding(crate::specs::Sound::unmet_main))]
     pub fn unmet(self, numbers: Numbers) -> Option<usize>
         ensures { UnmetMainOwes self numbers result }
     {
-        let k = self.fields().min(62);
-        let intra = self.intra_predictors;
-        let inter = self.inter_predictors;
-        let need = unmet(numbers, self.motor, &intra[..k], &inter[..k]);
-        need.map(|i| i + 2)
+        let field = unmet(
+            numbers,
+            self.motor,
+            self.fields(),
+            &self.intra_predictors,
+            &self.inter_predictors,
+        );
+        field.map(|i| i + 2)
     }
 
+    #[tactic(auto, unfolding(crate::specs::Sound::sound_main))]
     fn is_sound(self, numbers: Numbers) -> bool
         ensures { result ≡ sound_main self numbers }
     {
-        let k = self.fields();
-        if 62 < k {
-            return false;
-        }
-        let a = self.intra_predictors;
-        let b = self.intra_encodings;
-        if !are_known(&a[..k], &b[..k]) {
-            return false;
-        }
-        let c = self.inter_predictors;
-        let d = self.inter_encodings;
-        if !are_known(&c[..k], &d[..k]) {
-            return false;
-        }
-        self.unmet(numbers).is_none()
+        let n = self.fields();
+        n <= 62
+            && are_known(n, &self.intra_predictors, &self.intra_encodings)
+            && are_known(n, &self.inter_predictors, &self.inter_encodings)
+            && self.unmet(numbers).is_none()
     }
 }
 
 impl Slow {
+    #[tactic(auto, unfolding(crate::specs::Sound::unmet_slow))]
     pub fn unmet(self, numbers: Numbers) -> Option<usize>
         ensures { UnmetSlowOwes self numbers result }
     {
-        let k = self.n.min(16);
-        let intra = self.predictors;
-        let inter = self.predictors;
-        unmet(numbers, self.n, &intra[..k], &inter[..k])
+        unmet(numbers, self.n, self.n, &self.predictors, &self.predictors)
     }
 
+    #[tactic(auto, unfolding(crate::specs::Sound::sound_slow))]
     fn is_sound(self, numbers: Numbers) -> bool
         ensures { result ≡ sound_slow self numbers }
     {
-        let k = self.n;
-        if 16 < k {
-            return false;
-        }
-        let a = self.predictors;
-        let b = self.encodings;
-        if !are_known(&a[..k], &b[..k]) {
-            return false;
-        }
-        self.unmet(numbers).is_none()
+        is_kind_sound(self.n, &self.predictors, &self.encodings, self.n, numbers)
     }
 }
 
 impl FrameInterval {
     // Whether every loop iteration is logged, and the intra interval is one that can be.
+    #[tactic(auto, unfolding(crate::specs::Sound::is_interval))]
     pub fn is_interval(self) -> bool
         ensures { IsIntervalOwes self result }
     {
-        if self.intra < 1 {
-            return false;
-        }
-        if self.numerator == 1 {
-            return self.denominator == 1;
-        }
-        false
+        1 <= self.intra && self.numerator == 1 && self.denominator == 1
     }
 }
 
@@ -262,6 +254,7 @@ impl Settings {
 
 impl Definition {
     // A definition with no fields: what refused lists give.
+    #[tactic(auto, unfolding(crate::specs::Plan::nothing))]
     pub fn nothing() -> Definition
         ensures { NothingOwes result }
     {
@@ -294,17 +287,12 @@ impl Definition {
     }
 
     // Whether the walk can go by it: what checks 3, 8 and 9 ask, and no more fields than rooms.
+    #[tactic(auto, unfolding(crate::specs::Sound::sound))]
     pub fn is_sound(self) -> bool
         ensures { IsSoundOwes self result }
     {
-        let numbers = self.numbers;
-        if !self.main.is_sound(numbers) {
-            return false;
-        }
-        if !self.slow.is_sound(numbers) {
-            return false;
-        }
-        let settings = self.settings;
-        settings.interval.is_interval()
+        self.main.is_sound(self.numbers)
+            && self.slow.is_sound(self.numbers)
+            && self.settings.interval.is_interval()
     }
 }

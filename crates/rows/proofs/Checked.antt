@@ -1,55 +1,48 @@
 -- The next rows of a walk behind the check: refused, or laid out.
 use Prim.Native.Nat.{ℕ, ◌/◌}
+use Rattle.std.specs.Prelude.{Result, Ok, Err}
 use mathlib.Core.List.{List}
-use mathlib.Core.Path.{◌≡◌, refl, sym, ap, ◌∙◌}
+use mathlib.Core.Path.{◌≡◌, ap, ◌∙◌}
+use native.Mathlib.Omega.{arith}
 use lib.ListN.{length}
 use Rattle.plan.specs.declared.Definition.{Definition}
-use Rattle.section.specs.declared.Check.{Check}
-use Rattle.section.specs.declared.Check.TheVariants.{Pass, Refused}
 use Rattle.section.specs.declared.Refusal.{Refusal}
 use Rattle.section.specs.declared.Walk.{Walk}
-use Rattle.section.specs.Answers.{found}
+use Rattle.section.specs.Refusals.{Check}
 use Rattle.section.proofs.Checks.{refusal_verdict}
-use Rattle.section.proofs.Paper.{found_injective}
 use Rattle.rows.specs.declared.Laid.{Laid}
 use Rattle.rows.specs.Owes.{CheckOwes, NextOwes}
-use Rattle.rows.specs.Rows.{Rows, Told, row_length, rows_from, checked_rows, laid, laid_out, checked_first, next_rows}
+use Rattle.rows.specs.Rows.{Rows, Told, row_length, rows_from, checked_rows, told, laid_out, checked_first, next_rows}
 
 -- the verdict that is found
 pub check_is : (d : Definition) (w : Walk) (z room : ℕ) {r : Check} → CheckOwes d w z room r → r ≡ checked_rows d w z room
 unfolding checked_rows
 check_is d w z room owes = refusal_verdict d w z room (row_length d) owes
 
-module _ (d : Definition) (s : List ℕ) (w : Walk) (out : List ℕ) {v : Check} (verdict : CheckOwes d w (length s) (length out) v) where
-  next_by : {c : Check} → v ≡ c → checked_first c (rows_from d s (length out / row_length d) w) w out ≡ next_rows d s w out
+module _ (d : Definition) (s : List ℕ) (w : Walk) (out : List ℕ) where
+  next_by : (c : Check) → CheckOwes d w (length s) (length out) c → checked_first c (rows_from d s (length out / row_length d) w) out ≡ next_rows d s w out
   unfolding next_rows
-  next_by e = ap (λ c. checked_first c (rows_from d s (length out / row_length d) w) w out) (sym e ∙ check_is d w (length s) (length out) verdict)
+  next_by c verdict = ap (λ c. checked_first c (rows_from d s (length out / row_length d) w) out) (check_is d w (length s) (length out) verdict)
 
-  pub next_refused : {why : Refusal} → v ≡ Refused why → NextOwes d w s out (record { check = Refused why; count = 0; walk = w }) out
+  pub next_refused : {why : Refusal} → CheckOwes d w (length s) (length out) (Err why) → NextOwes d w s out (Err why) out
   unfolding checked_first
-  next_refused e = next_by e
+  next_refused verdict = next_by _ verdict
 
-  pub next_laid : (r : Laid) {after : List ℕ} → v ≡ Pass → laid r after ≡ laid_out (rows_from d s (length out / row_length d) w) out
-      → NextOwes d w s out r after
+  pub next_laid : {u : Unit {0}} → CheckOwes d w (length s) (length out) (Ok u) → (r : Laid) {after : List ℕ}
+      → told (Ok r) after ≡ laid_out (rows_from d s (length out / row_length d) w) out → NextOwes d w s out (Ok r) after
   unfolding checked_first
-  next_laid r pass e = e ∙ next_by pass
+  next_laid verdict r e = e ∙ next_by _ verdict
 
 -- ## What an answer of `next` tells
 
-refused_is : (v : Check) (x : Rows) (w : Walk) (out : List ℕ) → (checked_first v x w out).refused ≡ found v
-unfolding checked_first laid_out found
-refused_is Pass x w out = refl
-refused_is (Refused why) x w out = refl
+module _ (d : Definition) (s : List ℕ) (w : Walk) (out : List ℕ) where
+  -- a refusal is that of the check, and it keeps the buffer's content
+  told_refused : (c : Check) (x : Rows) {why : Refusal} {after : List ℕ} → told (Err why) after ≡ checked_first c x out → (c ≡ Err why) × (after ≡ out)
+  unfolding checked_first laid_out
+  told_refused (Ok u) x e = let z : ◌≡◌ {A = ℕ} 0 1 = cc (ap (λ (t : Told). t.given) e) in absurd (omega arith)
+  told_refused (Err y) x {why} e = let g : ◌≡◌ {A = Result Laid Refusal} (Err why) (Err y) = ap (λ (t : Told). t.given) e in (cc, ap (λ (t : Told). t.out) e)
 
-module _ (d : Definition) (s : List ℕ) (w : Walk) (out : List ℕ) (r : Laid) {after : List ℕ} (owes : NextOwes d w s out r after) where
-  -- its check
-  pub next_check : r.check ≡ checked_rows d w (length s) (length out)
+  pub next_kept : {why : Refusal} {after : List ℕ} → NextOwes d w s out (Err why) after
+      → (checked_rows d w (length s) (length out) ≡ Err why) × (after ≡ out)
   unfolding next_rows
-  next_check = found_injective _ _ (ap (λ (t : Told). t.refused) owes ∙ refused_is (checked_rows d w (length s) (length out)) _ w out)
-
-  -- and that a refusal keeps the buffer's content
-  pub next_kept : {why : Refusal} → r.check ≡ Refused why → after ≡ out
-  unfolding next_rows checked_first
-  next_kept e =
-      ap (λ (t : Told). t.out) owes
-      ∙ ap (λ v. (checked_first v (rows_from d s (length out / row_length d) w) w out).out) (sym next_check ∙ e)
+  next_kept owes = told_refused (checked_rows d w (length s) (length out)) _ owes

@@ -1,19 +1,14 @@
 -- One row: how many values it has, how its bytes are put behind each other, and how many they are.
-use Prim.Native.Nat.{ℕ, ◌+◌, ◌*◌, ◌<◌, ◌≤◌, min}
-use mathlib.Core.Bool.{Bool, true, false, cond}
+use Prim.Native.Nat.{ℕ, ◌+◌, ◌*◌, ◌≤◌}
 use mathlib.Core.List.{List, [], ◌∷◌, ◌++◌}
 use mathlib.Core.Path.{◌≡◌, refl, sym, ap, ◌∙◌}
-use native.Mathlib.Nat.{min-eq_left, min-le_left}
 use native.Mathlib.Omega.{arith}
-use lib.Dec.{ltb}
 use lib.ListN.{length, take, replicate, length-replicate}
 use lib.Seq.{sets, length-sets, length-take-le}
-use borrow.Author.Tests.{le-ltb, ltb-true, ltb-false}
 use Rattle.plan.specs.declared.Definition.{Definition}
 use Rattle.reader.specs.Place.{padded}
 use Rattle.section.specs.declared.Answer.{Answer}
 use Rattle.section.specs.declared.Answer.TheVariants.{Passed, Rejected, Event, Intra, Inter, Slow, Over, Refused}
-use Rattle.section.specs.Refusals.{larger, needed}
 use Rattle.section.specs.Walk.{Outcome}
 use Rattle.octets.specs.Bytes.{le32, le64, words}
 use Rattle.octets.proofs.Stores.{then_put, length_words}
@@ -23,44 +18,13 @@ use Rattle.rows.specs.Rows.{Row, width, row_length, row_for, row_bytes, row_of}
 
 -- ## How many values
 
-module _ (d : Definition) {n : ℕ} (e : n ≡ needed d) where
-  width_is : {m : ℕ} → larger 3 n ≡ m → min 62 m ≡ width d
-  unfolding width
-  width_is q = ap (min 62) (sym q ∙ ap (larger 3) e)
-
-  pub width_three : n < 3 → 3 ≡ width d
-  width_three h = width_is (ap (λ q. cond q n 3) (le-ltb 3 n (omega arith)))
-
-  large : (q : Bool) → ltb 3 n ≡ q → 3 ≤ n → larger 3 n ≡ n
-  large true t h = ap (λ q. cond q n 3) t
-  large false t h = ap (λ q. cond q n 3) t ∙ (let s : 3 ≡ n = omega (arith, ltb-false 3 n t) in s)
-
-  pub width_full : 62 < n → 62 ≡ width d
-  width_full h = sym (min-eq_left (omega arith)) ∙ width_is (large (ltb 3 n) refl (omega arith))
-
-  pub width_needed : 3 ≤ n → n ≤ 62 → n ≡ width d
-  width_needed h few = (let s : n ≡ min 62 n = omega arith in s) ∙ width_is (large (ltb 3 n) refl h)
-
 pub width_few : (d : Definition) → width d ≤ 62
 unfolding width
-width_few d = min-le_left 62 (larger 3 (needed d))
-
-larger_some : (q : Bool) (n : ℕ) → ltb 3 n ≡ q → 3 ≤ cond q n 3
-larger_some true n t = omega (arith, ltb-true 3 n t)
-larger_some false n t = omega arith
-
-pub width_some : (d : Definition) → 3 ≤ width d
-unfolding width
-width_some d = let h : 3 ≤ larger 3 (needed d) = larger_some (ltb 3 (needed d)) (needed d) refl in omega arith
+width_few d = omega arith
 
 pub row_length_some : (d : Definition) → 36 ≤ row_length d
-unfolding row_length
-row_length_some d = omega (arith, width_some d)
-
--- ## What an answer shows
-
-pub row_shows : {a b : Answer} (vs ws : List ℕ) {h g : Heading} → a ≡ b → h ≡ g → row_beside g ws ≡ row_for b vs → row_beside h ws ≡ row_for a vs
-row_shows vs ws e made f = ap (λ x. row_beside x ws) made ∙ f ∙ ap (λ x. row_for x vs) (sym e)
+unfolding row_length width
+row_length_some d = omega arith
 
 -- ## Its bytes
 

@@ -1,18 +1,16 @@
 -- The rows of a walk: a row of bytes for each accepted frame, one length for a definition, numbers low byte first (the layout is this project's own).
 -- At 0 the letter's byte in 32 bits, 4 the iteration in 32, 8 the place of the kind byte in 64, 16 the time in 64; from 24 on the values, 32 bits each.
-use Rattle.std.specs.Prelude.{ℕ, zero, suc, ◌+◌, ◌*◌, ◌/◌, min, cond, List, [], ◌∷◌, ◌++◌, leb, length, take}
-use Rattle.std.proofs.Math.Option.{none}
+use Rattle.std.specs.Prelude.{ℕ, zero, suc, ◌+◌, ◌*◌, ◌/◌, min, max, cond, Result, Ok, Err, List, [], ◌∷◌, ◌++◌, leb, length, take}
 use Rattle.std.proofs.lemmas.List.Edits.{sets}
 use Rattle.plan.specs.declared.Definition.{Definition}
 use Rattle.reader.specs.Place.{padded}
 use Rattle.section.specs.declared.Answer.{Answer}
 use Rattle.section.specs.declared.Answer.TheVariants.{Passed, Rejected, Event, Intra, Inter, Slow, Over, Refused}
-use Rattle.section.specs.declared.Check.{Check}
-use Rattle.section.specs.declared.Check.TheVariants as check
+use Rattle.section.specs.declared.Refusal.{Refusal}
 use Rattle.section.specs.declared.Refusal.TheVariants.{Unsound, TooShort}
 use Rattle.section.specs.declared.Walk.{Walk}
-use Rattle.section.specs.Answers.{Finding, found, is_over}
-use Rattle.section.specs.Refusals.{admitted, larger, needed}
+use Rattle.section.specs.Answers.{is_over}
+use Rattle.section.specs.Refusals.{Check, pass, admitted, needed}
 use Rattle.section.specs.Walk.{Outcome}
 use Rattle.calls.specs.Call.{called}
 use Rattle.octets.specs.Bytes.{le32, le64, words}
@@ -22,7 +20,7 @@ use Rattle.rows.specs.declared.Laid.{Laid}
 
 -- a place for every field, and for the three numbers of an event; no sound definition has more than 62 fields
 unfoldable pub width : Definition → ℕ
-width d = min 62 (larger 3 (needed d))
+width d = min 62 (max 3 (needed d))
 
 unfoldable pub row_length : Definition → ℕ
 row_length d = 24 + 4 * width d
@@ -86,27 +84,25 @@ joined (r ∷ rs) = r ++ joined rs
 
 -- 10, and 11 with the length of a row
 unfoldable pub checked_rows : Definition → Walk → (length room : ℕ) → Check
-checked_rows d w z room = cond (admitted d z w) (cond (leb (row_length d) room) check.Pass (check.Refused (TooShort (row_length d)))) (check.Refused Unsound)
+checked_rows d w z room = cond (admitted d z w) (cond (leb (row_length d) room) pass (Err (TooShort (row_length d)))) (Err Unsound)
 
--- all that is given: the refusal's number and place if there is one, how many rows, the walk, and the buffer's content
+-- all that is given: how many rows and the walk behind them, or the refusal; and the buffer's content
 pub record Told : Type 0 where
-  pub refused : Finding
-  pub count : ℕ
-  pub walk : Walk
+  pub given : Result Laid Refusal
   pub out : List ℕ
 
-abbrev pub laid : Laid → (out : List ℕ) → Told
-laid r out = record { refused = found r.check; count = r.count; walk = r.walk; out = out }
+abbrev pub told : Result Laid Refusal → (out : List ℕ) → Told
+told r out = record { given = r; out = out }
 
 -- the rows stand in front of the buffer; the rest keeps its content
 unfoldable pub laid_out : Rows → (out : List ℕ) → Told
-laid_out x out = record { refused = none; count = length x.rows; walk = x.walk; out = sets out 0 (joined x.rows) }
+laid_out x out = told (Ok (record { count = length x.rows; walk = x.walk })) (sets out 0 (joined x.rows))
 
--- a refusal hands the walk back and writes nothing
-unfoldable pub checked_first : Check → Rows → Walk → (out : List ℕ) → Told
-checked_first check.Pass x w out = laid_out x out
-checked_first (check.Refused why) x w out = record { refused = found (check.Refused why); count = 0; walk = w; out = out }
+-- a refusal writes nothing
+unfoldable pub checked_first : Check → Rows → (out : List ℕ) → Told
+checked_first (Ok u) x out = laid_out x out
+checked_first (Err why) x out = told (Err why) out
 
 -- as many rows as there is room for
 unfoldable pub next_rows : Definition → List ℕ → Walk → (out : List ℕ) → Told
-next_rows d s w out = checked_first (checked_rows d w (length s) (length out)) (rows_from d s (length out / row_length d) w) w out
+next_rows d s w out = checked_first (checked_rows d w (length s) (length out)) (rows_from d s (length out / row_length d) w) out

@@ -2,16 +2,16 @@
 // A walk that goes on from there gives the rows that follow, so that a section of any length is imported through a small buffer.
 #![tactic(auto)]
 
-ghost use Rattle.std.specs.Prelude.{true, ◌≡◌, ◌+◌, ◌*◌, ◌/◌, ◌≤◌, length};
+ghost use Rattle.std.specs.Prelude.{true, Ok, ◌≡◌, ◌+◌, ◌*◌, ◌/◌, ◌≤◌, length};
 ghost use Rattle.std.proofs.lemmas.List.Edits.{sets};
 ghost use Rattle.section.specs.Refusals.{admitted};
 ghost use Rattle.rows.specs.Owes.{RowLengthOwes, CheckOwes, NextOwes};
-ghost use Rattle.rows.specs.Rows.{width, row_length, row_for, row_bytes, rows_from, laid, laid_out};
+ghost use Rattle.rows.specs.Rows.{width, row_length, row_for, row_bytes, rows_from, told, laid_out};
 ghost use Rattle.rows.specs.Lent.{row_beside};
 
 use calls::quick::step_in;
 use plan::Definition;
-use section::{Answer, Check, Refusal, Walk};
+use section::{Answer, Refusal, Walk};
 
 // What a row says of a frame before its values: its letter, iteration, place and time. What a frame does not have is 0.
 #[derive(Clone, Copy)]
@@ -22,29 +22,23 @@ pub struct Heading {
     pub time: u64,
 }
 
-// How many rows were laid out, and the walk behind them; or why none was.
+// How many rows were laid out, and the walk behind them.
 #[derive(Clone, Copy)]
 pub struct Laid {
-    pub check: Check,
     pub count: usize,
     pub walk: Walk,
 }
 
 // How many values a row has: a place for every field, and for the three numbers of an event.
+#[tactic(auto, unfolding(crate::specs::Rows::width))]
 fn width(d: Definition) -> usize
     ensures { (result ≡ width d) × (result ≤ 62) }
 {
-    let n = section::refusals::room_needed(d);
-    if n < 3 {
-        return 3;
-    }
-    if 62 < n {
-        return 62;
-    }
-    n
+    section::refusals::room_needed(d).max(3).min(62)
 }
 
 // How many bytes a row takes.
+#[tactic(auto, unfolding(crate::specs::Rows::row_length))]
 pub fn row_length(d: Definition) -> usize
     ensures { RowLengthOwes d result }
 {
@@ -63,14 +57,13 @@ fn headed(letter: u32, iteration: u32, place: usize, time: u64) -> Heading
 }
 
 // An event shows its type and both its numbers in the places of the fields.
+#[tactic(auto, unfolding(crate::specs::Rows::row_for))]
 fn row_for(answer: Answer, values: &mut [u32; 62]) -> Heading
     ensures { row_beside result values.new ≡ row_for answer values.old }
 {
     match answer {
-        Answer::Passed => headed(0, 0, 0, 0),
-        Answer::Rejected(_, _) => headed(0, 0, 0, 0),
         Answer::Event(x) => {
-            values[0] = x.event.code as u32;
+            values[0] = u32::from(x.event.code);
             values[1] = x.event.first;
             values[2] = x.event.second;
             headed(69, 0, x.at, 0)
@@ -78,91 +71,73 @@ fn row_for(answer: Answer, values: &mut [u32; 62]) -> Heading
         Answer::Intra(x) => headed(73, x.iteration, x.at, x.time),
         Answer::Inter(x) => headed(80, x.iteration, x.at, x.time),
         Answer::Slow(x) => headed(83, 0, x.at, 0),
-        Answer::Over(_) => headed(0, 0, 0, 0),
-        Answer::Refused(_) => headed(0, 0, 0, 0),
+        Answer::Passed | Answer::Rejected(_, _) | Answer::Over(_) | Answer::Refused(_) => {
+            headed(0, 0, 0, 0)
+        }
     }
 }
 
+#[tactic(auto, using(crate::proofs::OneRow::put_row_all))]
 fn put_row(out: &mut [u8], at: usize, n: usize, r: Heading, values: &[u32; 62])
     requires { (n ≤ 62) × (at + (24 + 4 * n) ≤ length out.old) }
     ensures { out.new ≡ sets out.old at (row_bytes n (row_beside r values.now)) }
 {
-    let all = &values[..];
     octets::put32(out, at, r.letter);
     octets::put32(out, at + 4, r.iteration);
     octets::put64(out, at + 8, r.place as u64);
     octets::put64(out, at + 16, r.time);
-    octets::put_values(out, at + 24, &all[..n]);
+    octets::put_values(out, at + 24, &values[..n]);
 }
 
 // The rows of an admitted walk. The state is checked once, and a barren search is made once; the values of its frames stay in the same rooms throughout.
 fn lay(d: Definition, w: Walk, s: &[u8], out: &mut [u8]) -> Laid
     requires { admitted d (length s.now) w ≡ true }
-    ensures { laid result out.new ≡ laid_out (rows_from d s.now (length out.old / row_length d) w) out.old }
+    ensures { told (Ok result) out.new ≡ laid_out (rows_from d s.now (length out.old / row_length d) w) out.old }
 {
     let n = width(d);
     let size = row_length(d);
     let room = out.len() / size;
-    let history = w.history;
-    let last_frame = history.last;
-    let older_frame = history.older;
-    let mut last = last_frame.values;
-    let mut older = older_frame.values;
-    let mut values = [0u32; 62];
+    let mut values = w.values();
     let mut walk = w.light();
     let mut barren = false;
-    let mut count: usize = 0;
-    let mut at: usize = 0;
-    while count < room {
-        let stepped = step_in(d, walk, s, barren, &mut last, &mut older, &mut values);
-        let answer = stepped.answer;
-        let next = stepped.walk;
-        if answer.is_over() {
+    for count in 0..room {
+        let stepped = step_in(d, walk, s, barren, &mut values);
+        if stepped.answer.is_over() {
             return Laid {
-                check: Check::Pass,
                 count,
-                walk: next.with(last, older),
+                walk: stepped.walk.with(&values),
             };
         }
-        let head = row_for(answer, &mut values);
-        put_row(out, at, n, head, &values);
-        walk = next;
+        let head = row_for(stepped.answer, &mut values.fields);
+        put_row(out, count * size, n, head, &values.fields);
+        walk = stepped.walk;
         barren = stepped.barren;
-        at += size;
-        count += 1;
     }
     Laid {
-        check: Check::Pass,
-        count,
-        walk: walk.with(last, older),
+        count: room,
+        walk: walk.with(&values),
     }
 }
 
 // Refusals 10 and 11 of a buffer of rows: it has to have room for one.
-pub fn check(d: Definition, w: Walk, length: usize, room: usize) -> Check
+#[tactic(auto, unfolding(section::specs::Answers::found, section::specs::Answers::refusal_for, section::specs::Answers::paper_of))]
+pub fn check(d: Definition, w: Walk, length: usize, room: usize) -> Result<(), Refusal>
     ensures { CheckOwes d w length room result }
 {
     let size = row_length(d);
     if !section::refusals::admits(d, w, length) {
-        return Check::Refused(Refusal::Unsound);
+        return Err(Refusal::Unsound);
     }
     if room < size {
-        return Check::Refused(Refusal::TooShort(size));
+        return Err(Refusal::TooShort(size));
     }
-    Check::Pass
+    Ok(())
 }
 
 // The next rows of a walk, as many whole ones as the lent buffer has room for; or refusal 10, or 11 with the length of a row.
-pub fn next(d: Definition, w: Walk, s: &[u8], out: &mut [u8]) -> Laid
+pub fn next(d: Definition, w: Walk, s: &[u8], out: &mut [u8]) -> Result<Laid, Refusal>
     ensures { NextOwes d w s.now out.old result out.new }
 {
-    let verdict = check(d, w, s.len(), out.len());
-    match verdict {
-        Check::Pass => lay(d, w, s, out),
-        Check::Refused(why) => Laid {
-            check: Check::Refused(why),
-            count: 0,
-            walk: w,
-        },
-    }
+    check(d, w, s.len(), out.len())?;
+    Ok(lay(d, w, s, out))
 }

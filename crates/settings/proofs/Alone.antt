@@ -5,9 +5,8 @@ use mathlib.Core.Path.{◌≡◌, refl, sym, ap, ◌∙◌}
 use Rattle.header.specs.Header.{value_of}
 use Rattle.header.proofs.Alone.{alone, value_alone, part_alone}
 use Rattle.items.specs.declared.Stretch.{Stretch}
-use Rattle.items.specs.declared.Stretch.TheVariants.{At, Absent}
 use Rattle.items.specs.Text.{ascii}
-use Rattle.plan.specs.declared.HeaderNumber.TheVariants as header
+use Rattle.std.specs.Prelude.{Option, Some, None}
 use Rattle.settings.specs.declared.Said.{Said}
 use Rattle.settings.specs.Owes.{ReadOwes}
 use Rattle.settings.specs.Said.{said_at, line_of, numbers_of, inter_of, intra_of, interval_of, said_of}
@@ -16,9 +15,9 @@ use Rattle.settings.proofs.Settling.{interval_made}
 
 module _ (log : List ℕ) where
   module _ {A : Type 0} (prefix : List ℕ) (says : List ℕ → A) (without : A) where
-    at_alone : (s : Stretch) → value_of log prefix ≡ s → said_at (alone log) says without s ≡ said_at log says without s
-    at_alone Absent q = refl
-    at_alone (At a e) q = ap says (part_alone log prefix (At a e) q)
+    at_alone : (s : Option Stretch) → value_of log prefix ≡ s → said_at (alone log) says without s ≡ said_at log says without s
+    at_alone None q = refl
+    at_alone (Some s) q = ap says (part_alone log prefix (Some s) q)
 
     line_alone : line_of (alone log) prefix says without ≡ line_of log prefix says without
     unfolding line_of
@@ -28,9 +27,9 @@ module _ (log : List ℕ) where
   unfolding numbers_of
   numbers_alone = λ j.
       record {
-        min_throttle = line_alone (ascii "H minthrottle:") header_number_of header.Absent j;
-        vbat_reference = line_alone (ascii "H vbatref:") header_number_of header.Absent j;
-        min_motor = line_alone (ascii "H motorOutput:") first_of_two header.Absent j;
+        min_throttle = line_alone (ascii "H minthrottle:") header_number_of None j;
+        vbat_reference = line_alone (ascii "H vbatref:") header_number_of None j;
+        min_motor = line_alone (ascii "H motorOutput:") first_of_two None j;
       }
 
   inter_alone : inter_of (alone log) ≡ inter_of log

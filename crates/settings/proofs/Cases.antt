@@ -7,8 +7,7 @@ use Rattle.header.specs.Header.{newer, last_from, value_of}
 use Rattle.header.specs.Lines.{lines, bare, begins, headers}
 use Rattle.items.specs.Items.{given, part}
 use Rattle.items.specs.Text.{ascii}
-use Rattle.plan.specs.declared.HeaderNumber.{HeaderNumber}
-use Rattle.plan.specs.declared.HeaderNumber.TheVariants.{Absent, Given}
+use Rattle.std.specs.Prelude.{Option, Some, None}
 use Rattle.digits.specs.Digits.{before, digits, value_from, written, decimal_of}
 use Rattle.settings.specs.declared.Said.{Said}
 use Rattle.settings.specs.Said.{line_of, numbers_of, inter_of, intra_of, interval_of, said_of}
@@ -19,7 +18,7 @@ pub record Case : Type 0 where
   pub log : String
   pub said : Said
 
-abbrev pub says : (throttle battery motor : HeaderNumber) (intra numerator denominator : ℕ) → String → Case
+abbrev pub says : (throttle battery motor : Option ℕ) (intra numerator denominator : ℕ) → String → Case
 says t b m i n d log =
     record {
       log = log;
@@ -31,36 +30,36 @@ says t b m i n d log =
     }
 
 -- one header number and every iteration logged; the intervals alone
-abbrev pub throttle : HeaderNumber → String → Case
-throttle n = says n Absent Absent 1 1 1
+abbrev pub throttle : Option ℕ → String → Case
+throttle n = says n None None 1 1 1
 
-abbrev pub motor : HeaderNumber → String → Case
-motor n = says Absent Absent n 1 1 1
+abbrev pub motor : Option ℕ → String → Case
+motor n = says None None n 1 1 1
 
 abbrev pub every : (intra numerator denominator : ℕ) → String → Case
-every = says Absent Absent Absent
+every = says None None None
 
 abbrev pub cases : List Case
 cases =
     every 1 1 1 ""
     -- all five lines, and a carriage return, which is part of a value
-    ∷ says (Given 1150) (Given 4095) (Given 158) 32 1 2 "H minthrottle:1150\nH vbatref:4095\nH motorOutput:158,2047\nH I interval:32\nH P interval:1/2\n"
-    ∷ throttle Absent "H minthrottle:1150\r\n"
+    ∷ says (Some 1150) (Some 4095) (Some 158) 32 1 2 "H minthrottle:1150\nH vbatref:4095\nH motorOutput:158,2047\nH I interval:32\nH P interval:1/2\n"
+    ∷ throttle None "H minthrottle:1150\r\n"
     -- the last line counts, readable or not; a line without its line feed; lines behind the header are none
-    ∷ throttle Absent "H minthrottle:1150\nH minthrottle:x\n"
-    ∷ throttle (Given 7) "H minthrottle:x\nH minthrottle:+7"
-    ∷ throttle (Given 7) "H minthrottle:7\nI\nH minthrottle:8\n"
+    ∷ throttle None "H minthrottle:1150\nH minthrottle:x\n"
+    ∷ throttle (Some 7) "H minthrottle:x\nH minthrottle:+7"
+    ∷ throttle (Some 7) "H minthrottle:7\nI\nH minthrottle:8\n"
     -- 16 bits; a `+` alone; two; zeros in front
-    ∷ throttle (Given 65535) "H minthrottle:65535\n"
-    ∷ throttle Absent "H minthrottle:65536\n"
-    ∷ throttle Absent "H minthrottle:+\n"
-    ∷ throttle Absent "H minthrottle:++1\n"
-    ∷ throttle (Given 1) "H minthrottle:00000000000000000000000000000001\n"
+    ∷ throttle (Some 65535) "H minthrottle:65535\n"
+    ∷ throttle None "H minthrottle:65536\n"
+    ∷ throttle None "H minthrottle:+\n"
+    ∷ throttle None "H minthrottle:++1\n"
+    ∷ throttle (Some 1) "H minthrottle:00000000000000000000000000000001\n"
     -- two numbers, both readable
-    ∷ motor Absent "H motorOutput:158\n"
-    ∷ motor Absent "H motorOutput:158,\n"
-    ∷ motor Absent "H motorOutput:158,2047,1\n"
-    ∷ motor (Given 158) "H motorOutput:158,+2047\n"
+    ∷ motor None "H motorOutput:158\n"
+    ∷ motor None "H motorOutput:158,\n"
+    ∷ motor None "H motorOutput:158,2047,1\n"
+    ∷ motor (Some 158) "H motorOutput:158,+2047\n"
     -- an interval without the other line
     ∷ every 0 1 2 "H P interval:1/2\n"
     ∷ every 1 2 2 "H P interval:2/2\n"

@@ -8,8 +8,7 @@ use lib.Dec.{eqb, ltb, leb}
 use lib.ListN.{length, drop}
 use lib.Seq.{sets, sets-eq, drop-length}
 use borrow.Author.Tests.{le-leb, lt-leb, ltb-true}
-use Rattle.plan.specs.declared.HeaderNumber.{HeaderNumber}
-use Rattle.plan.specs.declared.HeaderNumber.TheVariants.{Absent, Given}
+use Rattle.std.specs.Prelude.{Option, Some, None}
 use Rattle.plan.specs.declared.Numbers.{Numbers}
 use Rattle.plan.specs.declared.Settings.{Settings}
 use Rattle.plan.specs.Plan.{number_code, number_of, no_numbers, plain}
@@ -44,7 +43,7 @@ module _ (bs : List ℕ) where
   unfolding settings_in
   settings_in_law a b c = λ i. record { interval = record { intra = a i; numerator = b i; denominator = c i } }
 
-  pub numbers_in_law : {x y z : ℕ} {a b c : HeaderNumber} → x ≡ setting_at 0 65536 bs → a ≡ number_of x → y ≡ setting_at 4 65536 bs → b ≡ number_of y
+  pub numbers_in_law : {x y z : ℕ} {a b c : Option ℕ} → x ≡ setting_at 0 65536 bs → a ≡ number_of x → y ≡ setting_at 4 65536 bs → b ≡ number_of y
       → z ≡ setting_at 8 65536 bs → c ≡ number_of z
       → ◌≡◌ {A = Numbers} (record { min_throttle = a; vbat_reference = b; min_motor = c }) (numbers_in bs)
   unfolding numbers_in
@@ -81,7 +80,7 @@ pub record Sized (n : Numbers) (s : Settings) : Type 0 where
   pub numerator : s.interval.numerator < 4294967296
   pub denominator : s.interval.denominator < 4294967296
 
-number_kept : (x : HeaderNumber) (rest : List ℕ) → NumberSized x → number_of (num32 (le32 (number_code x) ++ rest)) ≡ x
+number_kept : (x : Option ℕ) (rest : List ℕ) → NumberSized x → number_of (num32 (le32 (number_code x) ++ rest)) ≡ x
 number_kept x rest h = ap number_of (num_le (number_code x) rest (let q = number_code_small x h in omega arith)) ∙ number_of_code x h
 
 -- what is read out of bytes has them
@@ -89,7 +88,7 @@ number_of_sized : (n : ℕ) → NumberSized (number_of n)
 unfolding number_of
 number_of_sized n = by (ltb n 65536) refl
   where
-    by : (t : Bool) → ltb n 65536 ≡ t → NumberSized (cond t (Given n) Absent)
+    by : (t : Bool) → ltb n 65536 ≡ t → NumberSized (cond t (Some n) None)
     by true e = ltb-true n 65536 e
     by false e = tt
 
@@ -114,9 +113,9 @@ chosen_sized bs b =
     }
 
 -- and so has what a log says
-small_sized : (x : HeaderNumber) → Small x → NumberSized x
-small_sized Absent h = tt
-small_sized (Given v) h = omega (arith, h)
+small_sized : (x : Option ℕ) → Small x → NumberSized x
+small_sized None h = tt
+small_sized (Some v) h = omega (arith, h)
 
 pub said_sized : (log : List ℕ) → Sized (said_of log).numbers (record { interval = (said_of log).interval })
 said_sized log =
@@ -133,12 +132,12 @@ said_sized log =
 
 module _ (n : Numbers) (s : Settings) where
   pub are_settings_kept : are_settings (settings_bytes n s) ≡ true
-  unfolding are_settings settings_bytes words le32
+  unfolding are_settings settings_bytes le32
   are_settings_kept = refl
 
   module _ (z : Sized n s) where
     pub numbers_kept : numbers_in (settings_bytes n s) ≡ n
-    unfolding numbers_in setting_at settings_bytes words le32
+    unfolding numbers_in setting_at settings_bytes le32
     numbers_kept =
         let throttle = number_kept n.min_throttle _ z.throttle in
         let battery = number_kept n.vbat_reference _ z.battery in
@@ -146,7 +145,7 @@ module _ (n : Numbers) (s : Settings) where
         λ i. record { min_throttle = throttle i; vbat_reference = battery i; min_motor = least i }
 
     pub settings_kept : settings_in (settings_bytes n s) ≡ s
-    unfolding settings_in setting_at settings_bytes words le32
+    unfolding settings_in setting_at settings_bytes le32
     settings_kept =
         let intra = num_le s.interval.intra _ z.intra in
         let numerator = num_le s.interval.numerator _ z.numerator in
@@ -155,7 +154,7 @@ module _ (n : Numbers) (s : Settings) where
 
   -- a buffer of just their length holds nothing else
   pub with_settings_law : (bs : List ℕ) → length bs ≡ 24 → with_settings n s bs ≡ settings_bytes n s
-  unfolding with_settings settings_bytes words le32
+  unfolding with_settings settings_bytes le32
   with_settings_law bs e =
       let nothing_left = ap (λ k. drop k bs) (sym e) ∙ drop-length bs in
       simp (le-leb 24 (length bs) (omega arith))

@@ -7,12 +7,12 @@ ghost use Rattle.header.specs.Header.{value_of};
 ghost use Rattle.items.specs.Items.{part};
 ghost use Rattle.settings.specs.Owes.{ReadOwes};
 ghost use Rattle.settings.specs.Said.{numbers_of, inter_of, intra_of, interval_of};
-ghost use Rattle.settings.specs.Texts.{number_of, unplussed, header_number_of, first_of_two, number32, whole_of, over, ratio_of};
+ghost use Rattle.settings.specs.Texts.{number_of, unplussed, header_number_of, first_of_two, number32, whole_of, fraction_of, ratio_of};
 
-use digits::{Number, decimal, until};
+use digits::{decimal, until};
 use header::value;
-use items::{Stretch, part};
-use plan::{FrameInterval, HeaderNumber, Numbers};
+use items::part;
+use plan::{FrameInterval, Numbers};
 
 pub mod stored;
 
@@ -35,39 +35,29 @@ struct Ratio {
 }
 
 // Behind a `+` in front of a number.
+#[tactic(auto, using(crate::proofs::Texts::plus_by))]
 fn past_plus(s: &[u8]) -> &[u8]
     ensures { result.now ≡ unplussed s.now }
 {
-    if 0 < s.len() {
-        if s[0] == b'+' {
-            return &s[1..];
-        }
-    }
-    s
+    s.strip_prefix(b"+").unwrap_or(s)
 }
 
 // A decimal number up to the largest.
-fn number(s: &[u8], largest: usize) -> Number
+#[tactic(auto, using(crate::proofs::Texts::number_none))]
+fn number(s: &[u8], largest: usize) -> Option<usize>
     ensures { result ≡ number_of largest s.now }
 {
-    let read = decimal(past_plus(s));
-    let Number::Is(n) = read else {
-        return Number::Wrong;
-    };
-    if largest < n {
-        return Number::Wrong;
-    }
-    Number::Is(n)
+    let n = decimal(past_plus(s))?;
+    if n <= largest { Some(n) } else { None }
 }
 
-fn header_number(s: &[u8]) -> HeaderNumber
+// This and `number32` are not one function for any size: a call, and a cast that each one's own bound proves, are no longer than a bound for the type.
+#[tactic(auto, using(crate::proofs::Texts::number_le), unfolding(crate::specs::Texts::header_number_of))]
+fn header_number(s: &[u8]) -> Option<u16>
     ensures { result ≡ header_number_of s.now }
 {
-    let read = number(s, LARGEST_16);
-    let Number::Is(n) = read else {
-        return HeaderNumber::Absent;
-    };
-    HeaderNumber::Given(n as u16)
+    let n = number(s, LARGEST_16)?;
+    Some(n as u16)
 }
 
 // What stands behind the byte at a place.
@@ -78,60 +68,57 @@ fn behind(s: &[u8], at: usize) -> &[u8]
 }
 
 // The first of two header numbers around a comma; both have to be there.
-fn first_of_two(s: &[u8]) -> HeaderNumber
+#[tactic(auto, using(crate::proofs::Texts::second_absent, crate::proofs::Texts::second_given, digits::proofs::Parting::until_taken))]
+fn first_of_two(s: &[u8]) -> Option<u16>
     ensures { result ≡ first_of_two s.now }
 {
     let comma = until(s, b',');
-    let second = header_number(behind(s, comma));
-    let HeaderNumber::Given(_) = second else {
-        return HeaderNumber::Absent;
-    };
+    header_number(behind(s, comma))?;
     header_number(&s[..comma])
 }
 
+#[tactic(auto, using(crate::proofs::Texts::number_le), unfolding(crate::specs::Texts::number32))]
+fn number32(s: &[u8]) -> Option<u32>
+    ensures { result ≡ number32 s.now }
+{
+    let n = number(s, LARGEST_32)?;
+    Some(n as u32)
+}
+
 // A number of 32 bits, and 0 for what is none.
+#[tactic(auto, unfolding(crate::specs::Texts::whole_of))]
 fn whole(s: &[u8]) -> u32
     ensures { result ≡ whole_of s.now }
 {
-    let read = number(s, LARGEST_32);
-    let Number::Is(n) = read else {
-        return 0;
-    };
-    n as u32
+    number32(s).unwrap_or(0)
 }
 
 // Both numbers have to be readable: a half-read interval must not pass for another.
-fn fraction(above: &[u8], below: &[u8]) -> Ratio
-    ensures { result ≡ over (number32 above.now) (number32 below.now) }
+#[tactic(auto, using(crate::proofs::Texts::fraction_above, crate::proofs::Texts::fraction_below, crate::proofs::Texts::fraction_both))]
+fn fraction(above: &[u8], below: &[u8]) -> Option<Ratio>
+    ensures { result ≡ fraction_of (number32 above.now) (number32 below.now) }
 {
-    let none = Ratio {
-        numerator: 0,
-        denominator: 0,
-    };
-    let n = number(above, LARGEST_32);
-    let d = number(below, LARGEST_32);
-    let Number::Is(numerator) = n else {
-        return none;
-    };
-    let Number::Is(denominator) = d else {
-        return none;
-    };
-    Ratio {
-        numerator: numerator as u32,
-        denominator: denominator as u32,
-    }
+    Some(Ratio {
+        numerator: number32(above)?,
+        denominator: number32(below)?,
+    })
 }
 
-// N/D, or D alone for 1/D.
+// N/D, or D alone for 1/D, and 0/0 for what is neither.
+#[tactic(auto, using(crate::proofs::Texts::ratio_parted, crate::proofs::Texts::ratio_alone, digits::proofs::Parting::until_taken))]
 fn ratio_of(s: &[u8]) -> Ratio
     ensures { result ≡ ratio_of s.now }
 {
     let slash = until(s, b'/');
-    if slash < s.len() {
+    let read = if slash < s.len() {
         fraction(&s[..slash], behind(s, slash))
     } else {
         fraction(b"1", s)
-    }
+    };
+    read.unwrap_or(Ratio {
+        numerator: 0,
+        denominator: 0,
+    })
 }
 
 // The value of the last line with a prefix, and an empty one, which is no number, where there is no such line.
@@ -157,8 +144,8 @@ fn inter(log: &[u8]) -> Ratio
 {
     let line = value(log, b"H P interval:");
     match line {
-        Stretch::At(_, _) => ratio_of(part(log, line)),
-        Stretch::Absent => Ratio {
+        Some(_) => ratio_of(part(log, line)),
+        None => Ratio {
             numerator: 1,
             denominator: 1,
         },
@@ -171,8 +158,8 @@ fn intra(log: &[u8], numerator: u32, denominator: u32) -> u32
 {
     let line = value(log, b"H I interval:");
     match line {
-        Stretch::At(_, _) => whole(part(log, line)),
-        Stretch::Absent => if numerator == denominator { 1 } else { 0 },
+        Some(_) => whole(part(log, line)),
+        None => if numerator == denominator { 1 } else { 0 },
     }
 }
 
@@ -187,6 +174,7 @@ fn interval(log: &[u8]) -> FrameInterval
     }
 }
 
+#[tactic(auto, unfolding(crate::specs::Said::said_of))]
 pub fn read(log: &[u8]) -> Said
     ensures { ReadOwes log.now result }
 {

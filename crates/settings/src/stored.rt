@@ -4,7 +4,7 @@ ghost use Rattle.std.specs.Prelude.{◌≡◌, ◌≤◌};
 ghost use Rattle.settings.specs.Owes.{AreSettingsOwes, NumbersInOwes, SettingsInOwes, PutOwes};
 ghost use Rattle.settings.specs.Stored.{setting_at};
 
-use plan::{FrameInterval, HeaderNumber, Numbers, Settings};
+use plan::{FrameInterval, Numbers, Settings, number_code, number_of};
 
 // How many bytes all of them take.
 pub const SETTINGS: usize = 24;
@@ -13,13 +13,11 @@ pub const SETTINGS: usize = 24;
 const ABSENT: u32 = 65536;
 
 // Whether a stretch has no more than all of them, and whole ones.
+#[tactic(auto, using(crate::proofs::Kept::too_long, crate::proofs::Kept::whole_numbers))]
 pub fn are_settings(s: &[u8]) -> bool
     ensures { AreSettingsOwes s.now result }
 {
-    if SETTINGS < s.len() {
-        return false;
-    }
-    s.len() % 4 == 0
+    s.len() <= SETTINGS && s.len() % 4 == 0
 }
 
 // The number at a place, or its default.
@@ -33,13 +31,14 @@ fn setting(s: &[u8], at: usize, default: u32) -> u32
     octets::take32(s, at)
 }
 
+#[tactic(auto, using(crate::proofs::Kept::numbers_in_law))]
 pub fn numbers_in(s: &[u8]) -> Numbers
     ensures { NumbersInOwes s.now result }
 {
     Numbers {
-        min_throttle: HeaderNumber::of(setting(s, 0, ABSENT) as u64),
-        vbat_reference: HeaderNumber::of(setting(s, 4, ABSENT) as u64),
-        min_motor: HeaderNumber::of(setting(s, 8, ABSENT) as u64),
+        min_throttle: number_of(u64::from(setting(s, 0, ABSENT))),
+        vbat_reference: number_of(u64::from(setting(s, 4, ABSENT))),
+        min_motor: number_of(u64::from(setting(s, 8, ABSENT))),
     }
 }
 
@@ -56,18 +55,16 @@ pub fn settings_in(s: &[u8]) -> Settings
 }
 
 // Puts all of them in front of a buffer; one that is too short keeps its content.
+#[tactic(auto, using(crate::proofs::Kept::put_all, crate::proofs::Kept::put_short))]
 pub fn put(buf: &mut [u8], numbers: Numbers, settings: Settings)
     ensures { PutOwes numbers settings buf.old buf.new }
 {
     if SETTINGS <= buf.len() {
-        let throttle = numbers.min_throttle;
-        let battery = numbers.vbat_reference;
-        let least = numbers.min_motor;
         let interval = settings.interval;
         let all = [
-            throttle.code(),
-            battery.code(),
-            least.code(),
+            number_code(numbers.min_throttle),
+            number_code(numbers.vbat_reference),
+            number_code(numbers.min_motor),
             interval.intra,
             interval.numerator,
             interval.denominator,

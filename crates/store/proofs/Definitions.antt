@@ -1,10 +1,9 @@
 -- A definition as bytes: the codes of the header numbers, what the loads make, and how the stores follow each other.
 use Prim.Native.Nat.{ℕ, ◌+◌, ◌<◌, ◌≤◌}
-use mathlib.Core.Bool.{true}
 use mathlib.Core.Path.{◌≡◌, refl, sym, ap, ap₂, ◌∙◌}
 use mathlib.Core.List.{List, ◌++◌}
 use native.Mathlib.Omega.{arith}
-use borrow.Author.Tests.{lt-ltb, le-ltb, le-leb, lt-leb, eq-eqb, ne_eqb}
+use borrow.Author.Tests.{lt-ltb, le-ltb, le-leb, lt-leb}
 use mir.Val.{Val}
 use denote.Laws.{Is}
 use denote.Struct.Declared as declared
@@ -20,10 +19,10 @@ use Rattle.plan.specs.Plan.{number_code, number_of}
 use Rattle.plan.proofs.Rooms.{MainRooms, SlowRooms, slow_rooms}
 use Rattle.plan.specs.contracts.Slow as slow
 use Rattle.octets.specs.Bytes.{le32, le64, num64}
-use Rattle.octets.proofs.Stores.{then_put, length_le64}
-use Rattle.store.specs.declared.TakenDefinition.{TakenDefinition}
+use Rattle.octets.specs.Widths.{length_le64}
+use Rattle.octets.proofs.Stores.{then_put}
 use Rattle.store.specs.Definition.{fitting, count_bytes, main_bytes, slow_bytes, settings_bytes, definition_bytes}
-use Rattle.store.specs.Definition.{with_definition, codes_at, definition_at, is_definition, no_definition, taken_definition}
+use Rattle.store.specs.Definition.{with_definition, codes_at, definition_at}
 
 -- ## Codes
 
@@ -63,22 +62,6 @@ module _ (l : List ℕ) where
   unfolding definition_at
   settings_at x a y b z c =
       λ i. record { interval = record { intra = (a ∙ ap fitting x) i; numerator = (b ∙ ap fitting y) i; denominator = (c ∙ ap fitting z) i } }
-
-  pub taken_short : {r : TakenDefinition} → r ≡ no_definition → length l < 438 → r ≡ taken_definition l
-  unfolding taken_definition is_definition
-  taken_short e h = e ∙ simp (lt-leb _ _ h)
-
-  pub taken_other : {r : TakenDefinition} {x : ℕ} → r ≡ no_definition → x ≡ num64 (drop 0 l) → (x ≡ 2 → ⊥) → 438 ≤ length l → r ≡ taken_definition l
-  unfolding taken_definition is_definition
-  taken_other e v n h = e ∙ simp (le-leb _ _ h, ne_eqb (num64 l) 2 (λ q. n (v ∙ q)))
-
-  pub taken_one : {x : ℕ} {m : Main} {s : Slow} {n : Numbers} {t : Settings} → x ≡ num64 (drop 0 l) → x ≡ 2 → m ≡ (definition_at l).main
-      → s ≡ (definition_at l).slow → n ≡ (definition_at l).numbers → t ≡ (definition_at l).settings → 438 ≤ length l
-      → ◌≡◌ {A = TakenDefinition} (record { is_one = true; definition = record { main = m; slow = s; numbers = n; settings = t } }) (taken_definition l)
-  unfolding taken_definition is_definition
-  taken_one v e m s n t h =
-      (λ i. record { is_one = true; definition = record { main = m i; slow = s i; numbers = n i; settings = t i } })
-      ∙ simp (le-leb _ _ h, eq-eqb (num64 l) 2 (sym v ∙ e))
 
 -- ## What is written
 

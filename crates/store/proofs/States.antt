@@ -1,13 +1,14 @@
 -- A walk's codes, and how it is read and written: each store behind the one before it, each number where the layout has it.
 use Prim.Native.Nat.{ℕ, ◌+◌, ◌<◌, ◌≤◌}
-use mathlib.Core.Bool.{Bool, true, false, ◌&&◌, not}
+use mathlib.Core.Bool.{Bool, true, false, ◌&&◌}
+use Rattle.std.specs.Prelude.{Some, None}
+use Rattle.std.specs.Bool.{then_some}
 use mathlib.Core.Path.{◌≡◌, refl, sym, ap, ◌∙◌}
 use mathlib.Core.List.{List, [], ◌∷◌, ◌++◌}
 use native.Mathlib.Omega.{arith}
 use lib.ListN.{length, get_or, drop, length-append}
 use lib.Seq.{sets, length-sets, drop-drop}
-use borrow.Author.Tests.{eq-eqb, ne_eqb, le-leb, lt-leb, not-true, not-false}
-use Rattle.reader.specs.declared.Letter.{Letter}
+use borrow.Author.Tests.{eq-eqb, ne_eqb, le-leb, lt-leb}
 use Rattle.reader.specs.declared.Letter.TheVariants.{Other}
 use Rattle.reader.specs.Search.{letter_of}
 use Rattle.frame.specs.declared.MainFrame.{MainFrame}
@@ -17,9 +18,8 @@ use Rattle.section.specs.declared.Tally.{Tally}
 use Rattle.section.specs.declared.Walk.{Walk}
 use Rattle.octets.specs.Bytes.{le32, le64, words, num32, num64, nums}
 use Rattle.octets.proofs.Stores.{length_words, then_put}
-use Rattle.store.specs.declared.TakenState.{TakenState}
-use Rattle.store.specs.State.{state_version, mark_code, mark_of, is_mark, ending_code, cut_place, cut_by, ending_of, is_letter, is_ending}
-use Rattle.store.specs.State.{frame_bytes, frame_at, tally_bytes, tally_at, state_bytes, with_state, walk_at, is_state, no_state, taken_state}
+use Rattle.store.specs.State.{state_version, mark_code, mark_of, ending_code, cut_place, ending_of, is_ending, is_mark, is_state, taken_state, walk_at}
+use Rattle.store.specs.State.{frame_bytes, frame_at, tally_bytes, tally_at, state_bytes, with_state}
 
 -- ## Codes
 
@@ -34,15 +34,6 @@ no_letter c h =
       ne_eqb c 72 (omega arith),
       ne_eqb c 83 (omega arith),
     )
-
--- a code that is neither 1 nor 3 is told by its letter
-pub ending_by : (c p : ℕ) {l : Letter} → (c ≡ 1 → ⊥) → (c ≡ 3 → ⊥) → l ≡ letter_of c → cut_by l p ≡ ending_of c p
-unfolding ending_of
-ending_by c p a b e = rw (ne_eqb c 1 a, ne_eqb c 3 b, e)
-
-pub is_ending_by : (c : ℕ) {l : Letter} → (c ≡ 0 → ⊥) → (c ≡ 1 → ⊥) → (c ≡ 3 → ⊥) → l ≡ letter_of c → is_letter l ≡ is_ending c
-unfolding is_ending
-is_ending_by c z a b e = rw (ne_eqb c 0 z, ne_eqb c 1 a, ne_eqb c 3 b, e)
 
 -- ## Reading
 
@@ -59,51 +50,39 @@ pub tally_at_law : (l : List ℕ) {p x q main events slow rejected trials : ℕ}
 unfolding tally_at
 tally_at_law l p x q e m v s r t = rw (p, e, x, q, m, v, s, r, t)
 
--- what a test says of a number that was read
-pub said_no : (f : ℕ → Bool) {n x : ℕ} {b : Bool} → x ≡ n → b ≡ f x → not b ≡ true → f n ≡ false
-said_no f e g h = ap f (sym e) ∙ sym g ∙ not-true _ h
-
-pub said_yes : (f : ℕ → Bool) {n x : ℕ} {b : Bool} → x ≡ n → b ≡ f x → not b ≡ false → f n ≡ true
-said_yes f e g h = ap f (sym e) ∙ sym g ∙ not-false _ h
-
 and_false : (b : Bool) → (b && false) ≡ false
 and_false true = refl
 and_false false = refl
 
 module _ (l : List ℕ) where
-  pub state_short : length l < 600 → is_state l ≡ false
-  unfolding is_state
-  state_short h = rw (lt-leb 600 (length l) h)
-
-  pub state_other : {v : ℕ} → v ≡ num64 l → (v ≡ 1 → ⊥) → is_state l ≡ false
-  unfolding is_state
-  state_other e n = simp (sym e, ne_eqb _ 1 n, and_false)
-
-  pub state_ending : is_ending (num64 (drop 16 l)) ≡ false → is_state l ≡ false
-  unfolding is_state
-  state_ending h = simp (h, and_false)
-
-  pub state_last : is_mark (num32 (drop 72 l)) ≡ false → is_state l ≡ false
-  unfolding is_state
-  state_last h = simp (h, and_false)
-
-  pub state_older : is_mark (num32 (drop 336 l)) ≡ false → is_state l ≡ false
-  unfolding is_state
-  state_older h = simp (h, and_false)
-
   pub state_all : {v : ℕ} → 600 ≤ length l → v ≡ num64 l → v ≡ 1 →
       is_ending (num64 (drop 16 l)) ≡ true → is_mark (num32 (drop 72 l)) ≡ true → is_mark (num32 (drop 336 l)) ≡ true → is_state l ≡ true
   unfolding is_state
   state_all h e n x a b = rw (le-leb 600 (length l) h, eq-eqb (num64 l) 1 (sym e ∙ n), x, a, b)
 
-  pub taken_none : {r : TakenState} → r ≡ no_state → is_state l ≡ false → r ≡ taken_state l
-  unfolding taken_state
-  taken_none e h = e ∙ rw h
+-- what a value that is there tells, and what one that is absent does
+told_there : {A : Type 0} (b : Bool) {x y : A} → Some x ≡ then_some b y → (b ≡ true) × (x ≡ y)
+told_there true e = (refl, cc)
+told_there false e = cc
 
-  pub taken_one : {t : Tally} {f g : MainFrame} → t ≡ tally_at l → f ≡ frame_at (drop 72 l) → g ≡ frame_at (drop 336 l) → is_state l ≡ true →
-      ◌≡◌ {A = TakenState} (record { is_one = true; walk = record { tally = t; history = record { last = f; older = g } } }) (taken_state l)
-  unfolding taken_state walk_at
-  taken_one t f g h = rw (t, f, g, h)
+told_absent : {A : Type 0} (b : Bool) (y : A) → None ≡ then_some b y → b ≡ false
+told_absent true y e = cc
+told_absent false y e = refl
+
+pub taken_not : (l : List ℕ) → None ≡ then_some (is_mark (num32 (drop 336 l))) (frame_at (drop 336 l)) → None ≡ taken_state l
+unfolding taken_state is_state
+taken_not l g = simp (told_absent _ _ g, and_false)
+
+pub taken_as : (l : List ℕ) {v : ℕ} {t : Tally} {f g : MainFrame} → 600 ≤ length l → v ≡ num64 l → v ≡ 1
+    → Some t ≡ then_some (is_ending (num64 (drop 16 l))) (tally_at l) → Some f ≡ then_some (is_mark (num32 (drop 72 l))) (frame_at (drop 72 l))
+    → Some g ≡ then_some (is_mark (num32 (drop 336 l))) (frame_at (drop 336 l))
+    → Some (record { tally = t; history = record { last = f; older = g } }) ≡ taken_state l
+unfolding taken_state walk_at
+taken_as l h e n t f g =
+    let (a, p) = told_there _ t in
+    let (b, q) = told_there _ f in
+    let (c, r) = told_there _ g in
+    rw (state_all l h e n a b c, p, q, r)
 
 -- ## Writing
 

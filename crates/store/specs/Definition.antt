@@ -1,15 +1,14 @@
 -- A definition as 438 bytes (the layout is this project's own). Numbers of 64 bits, low byte first, at 0 the layout's version,
 -- 8 the items of the main lists, 16 the place of `motor[0]`, 24 the items of the slow lists, 32, 40 and 48 the header numbers; then a byte a room:
 -- 5 lists of 62 from 56 on, 3 of 16 from 366 on; then numbers again: 414 the intra interval, 422 / 430 the interval.
-use Rattle.std.specs.Prelude.{ℕ, Bool, true, false, cond, ◌&&◌, List, ◌++◌, eqb, ltb, leb, length, take, drop}
+use Rattle.std.specs.Prelude.{ℕ, Bool, cond, Option, Some, None, ◌&&◌, List, ◌++◌, eqb, ltb, leb, length, take, drop}
 use Rattle.std.proofs.lemmas.List.Edits.{sets}
 use Rattle.plan.specs.declared.Definition.{Definition}
 use Rattle.plan.specs.declared.Main.{Main}
 use Rattle.plan.specs.declared.Settings.{Settings}
 use Rattle.plan.specs.declared.Slow.{Slow}
-use Rattle.plan.specs.Plan.{number_code, number_of, nothing}
+use Rattle.plan.specs.Plan.{number_code, number_of}
 use Rattle.octets.specs.Bytes.{le64, num64}
-use Rattle.store.specs.declared.TakenDefinition.{TakenDefinition}
 
 abbrev pub definition_version : ℕ
 definition_version = 2
@@ -96,8 +95,5 @@ definition_at bs =
 unfoldable pub is_definition : List ℕ → Bool
 is_definition bs = leb definition_length (length bs) && eqb (num64 bs) definition_version
 
-unfoldable pub no_definition : TakenDefinition
-no_definition = record { is_one = false; definition = nothing }
-
-unfoldable pub taken_definition : List ℕ → TakenDefinition
-taken_definition bs = cond (is_definition bs) (record { is_one = true; definition = definition_at bs }) no_definition
+unfoldable pub taken_definition : List ℕ → Option Definition
+taken_definition bs = cond (is_definition bs) (Some (definition_at bs)) None

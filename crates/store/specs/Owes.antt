@@ -1,15 +1,13 @@
 -- What each public function of this crate owes.
-use Rattle.std.specs.Prelude.{ℕ, List, ◌≡◌}
+use Rattle.std.specs.Prelude.{ℕ, List, Option, ◌≡◌}
 use Rattle.plan.specs.declared.Definition.{Definition}
 use Rattle.reader.specs.declared.Kind.{Kind}
 use Rattle.reader.specs.Search.{byte_of}
 use Rattle.section.specs.declared.Walk.{Walk}
-use Rattle.store.specs.declared.TakenDefinition.{TakenDefinition}
-use Rattle.store.specs.declared.TakenState.{TakenState}
 use Rattle.store.specs.Definition.{taken_definition, with_definition}
 use Rattle.store.specs.State.{taken_state, with_state}
 
-abbrev pub TakeDefinitionOwes : List ℕ → TakenDefinition → Type 0
+abbrev pub TakeDefinitionOwes : List ℕ → Option Definition → Type 0
 TakeDefinitionOwes bs r = r ≡ taken_definition bs
 
 -- a buffer before and after it
@@ -19,7 +17,7 @@ PutDefinitionOwes d buf after = after ≡ with_definition d buf
 abbrev pub LetterOwes : Kind → ℕ → Type 0
 LetterOwes kind r = r ≡ byte_of kind
 
-abbrev pub TakeStateOwes : List ℕ → TakenState → Type 0
+abbrev pub TakeStateOwes : List ℕ → Option Walk → Type 0
 TakeStateOwes bs r = r ≡ taken_state bs
 
 abbrev pub PutStateOwes : Walk → (buf after : List ℕ) → Type 0

@@ -1,7 +1,7 @@
 -- A walk as 600 bytes (the layout is this project's own).
 -- Numbers of 64 bits, low byte first, at 0 the layout's version, 8 the place, 16 the ending, 24 the cut's place, 32, 40, 48 and 56 the counts of main,
 -- event and slow frames and of rejected trials, 64 the trials; the history's last frame at 72, the older one at 336.
-use Rattle.std.specs.Prelude.{ℕ, Bool, true, false, cond, ◌&&◌, ◌||◌, List, [], ◌∷◌, ◌++◌, eqb, leb, length, get_or, drop}
+use Rattle.std.specs.Prelude.{ℕ, Bool, true, false, cond, Option, Some, None, ◌&&◌, ◌||◌, List, [], ◌∷◌, ◌++◌, eqb, leb, length, get_or, drop}
 use Rattle.std.proofs.lemmas.List.Edits.{sets}
 use Rattle.reader.specs.declared.Letter.{Letter}
 use Rattle.reader.specs.declared.Letter.TheVariants.{Is, Other}
@@ -13,9 +13,7 @@ use Rattle.section.specs.declared.Ending.{Ending}
 use Rattle.section.specs.declared.Ending.TheVariants.{Going, Done, Out, Cut}
 use Rattle.section.specs.declared.Tally.{Tally}
 use Rattle.section.specs.declared.Walk.{Walk}
-use Rattle.section.specs.Walk.{start}
 use Rattle.octets.specs.Bytes.{le32, le64, words, num32, num64, nums}
-use Rattle.store.specs.declared.TakenState.{TakenState}
 
 abbrev pub state_version : ℕ
 state_version = 1
@@ -114,8 +112,5 @@ is_state bs =
     && (is_ending (num64 (drop 16 bs))
     && (is_mark (num32 (drop 72 bs)) && is_mark (num32 (drop 336 bs)))))
 
-unfoldable pub no_state : TakenState
-no_state = record { is_one = false; walk = start }
-
-unfoldable pub taken_state : List ℕ → TakenState
-taken_state bs = cond (is_state bs) (record { is_one = true; walk = walk_at bs }) no_state
+unfoldable pub taken_state : List ℕ → Option Walk
+taken_state bs = cond (is_state bs) (Some (walk_at bs)) None

@@ -2,9 +2,6 @@
 // What comes back is read, not trusted: its layout's version stands first, and codes that stand for nothing are told.
 #![tactic(auto)]
 
-use plan::Definition;
-use section::Walk;
-
 pub mod def;
 pub mod state;
 
@@ -17,17 +14,3 @@ pub const DEFINITION: usize = 438;
 pub const STATE_VERSION: u64 = 1;
 
 pub const STATE: usize = 600;
-
-// What bytes say: a definition, or that they are none; then it has no fields.
-#[derive(Clone, Copy)]
-pub struct TakenDefinition {
-    pub is_one: bool,
-    pub definition: Definition,
-}
-
-// What bytes say: a walk, or that they are none; then it is one that has not begun.
-#[derive(Clone, Copy)]
-pub struct TakenState {
-    pub is_one: bool,
-    pub walk: Walk,
-}

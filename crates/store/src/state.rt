@@ -1,18 +1,21 @@
 // A walk as bytes: the version, the tally, and the two main frames of its history.
 ghost use Rattle.std.specs.Prelude.{◌≡◌, ◌+◌, ◌≤◌, length, drop};
+ghost use Rattle.std.specs.Bool.{then_some};
 ghost use Rattle.std.proofs.lemmas.List.Edits.{sets};
 ghost use Rattle.reader.specs.Search.{letter_of};
+ghost use Rattle.octets.specs.Bytes.{num32, num64};
 ghost use Rattle.store.specs.Owes.{LetterOwes, TakeStateOwes, PutStateOwes};
 ghost use Rattle.store.specs.State.{mark_code, mark_of, is_mark, ending_code, cut_place, ending_of};
-ghost use Rattle.store.specs.State.{is_ending, frame_bytes, frame_at, tally_bytes, tally_at, no_state};
+ghost use Rattle.store.specs.State.{is_ending, frame_bytes, frame_at, tally_bytes, tally_at};
 
-use crate::{STATE, STATE_VERSION, TakenState};
+use crate::{STATE, STATE_VERSION};
 use frame::{MainFrame, Mark};
 use history::History;
 use reader::{Kind, Letter};
 use section::{Ending, Tally, Walk};
 
 // A frame's letter, or 0 for none.
+#[tactic(auto, unfolding(crate::specs::State::mark_code))]
 fn mark_code(mark: Mark) -> u32
     ensures { result ≡ mark_code mark }
 {
@@ -23,27 +26,19 @@ fn mark_code(mark: Mark) -> u32
     }
 }
 
-fn mark_of(code: u32) -> Mark
-    ensures { result ≡ mark_of code }
+#[tactic(auto, unfolding(crate::specs::State::mark_of, crate::specs::State::is_mark))]
+fn mark_of(code: u32) -> Option<Mark>
+    ensures { result ≡ then_some (is_mark code) (mark_of code) }
 {
     match code {
-        73 => Mark::Intra,
-        80 => Mark::Inter,
-        _ => Mark::Absent,
+        0 => Some(Mark::Absent),
+        73 => Some(Mark::Intra),
+        80 => Some(Mark::Inter),
+        _ => None,
     }
 }
 
-fn is_mark(code: u32) -> bool
-    ensures { result ≡ is_mark code }
-{
-    match code {
-        0 => true,
-        73 => true,
-        80 => true,
-        _ => false,
-    }
-}
-
+#[tactic(auto, using(crate::proofs::States::no_letter))]
 fn letter_of(code: u64) -> Letter
     ensures { result ≡ letter_of code }
 {
@@ -69,6 +64,7 @@ pub fn letter(kind: Kind) -> u64
 }
 
 // A cut is told by the letter of the frame that the data ended in.
+#[tactic(auto, unfolding(crate::specs::State::ending_code))]
 fn ending_code(ending: Ending) -> u64
     ensures { result ≡ ending_code ending }
 {
@@ -80,169 +76,128 @@ fn ending_code(ending: Ending) -> u64
     }
 }
 
+#[tactic(auto, unfolding(crate::specs::State::cut_place))]
 fn cut_place(ending: Ending) -> usize
     ensures { result ≡ cut_place ending }
 {
     match ending {
-        Ending::Going => 0,
-        Ending::Out => 0,
-        Ending::Done => 0,
         Ending::Cut(_, place) => place,
+        _ => 0,
     }
 }
 
-fn ending_of(code: u64, place: usize) -> Ending
-    ensures { result ≡ ending_of code place }
+#[tactic(auto, unfolding(crate::specs::State::ending_of, crate::specs::State::is_ending, crate::specs::State::cut_by, crate::specs::State::is_letter, reader::specs::Search::letter_of))]
+fn ending_of(code: u64, place: usize) -> Option<Ending>
+    ensures { result ≡ then_some (is_ending code) (ending_of code place) }
 {
-    if code == 1 {
-        return Ending::Out;
-    }
-    if code == 3 {
-        return Ending::Done;
-    }
-    let letter = letter_of(code);
-    match letter {
-        Letter::Is(kind) => Ending::Cut(kind, place),
-        Letter::Other => Ending::Going,
-    }
-}
-
-fn is_ending(code: u64) -> bool
-    ensures { result ≡ is_ending code }
-{
-    if code == 0 {
-        return true;
-    }
-    if code == 1 {
-        return true;
-    }
-    if code == 3 {
-        return true;
-    }
-    let letter = letter_of(code);
-    match letter {
-        Letter::Is(_) => true,
-        Letter::Other => false,
+    match code {
+        0 => Some(Ending::Going),
+        1 => Some(Ending::Out),
+        3 => Some(Ending::Done),
+        _ => {
+            match letter_of(code) {
+                Letter::Is(kind) => Some(Ending::Cut(kind, place)),
+                Letter::Other => None,
+            }
+        }
     }
 }
 
-fn take_frame(buf: &[u8], at: usize) -> MainFrame
+#[tactic(auto, using(crate::proofs::States::frame_at_law))]
+fn take_frame(buf: &[u8], at: usize) -> Option<MainFrame>
     requires { at + 264 ≤ length buf.now }
-    ensures { result ≡ frame_at (drop at buf.now) }
+    ensures { result ≡ then_some (is_mark (num32 (drop at buf.now))) (frame_at (drop at buf.now)) }
 {
-    let mark = mark_of(octets::take32(buf, at));
-    let iteration = octets::take32(buf, at + 4);
-    let time = octets::take64(buf, at + 8);
-    let mut values = [0u32; 62];
+    let mark = mark_of(octets::take32(buf, at))?;
+    let mut values = [0; 62];
     octets::take_values(buf, at + 16, &mut values);
-    MainFrame {
+    Some(MainFrame {
         mark,
-        iteration,
-        time,
+        iteration: octets::take32(buf, at + 4),
+        time: octets::take64(buf, at + 8),
         values,
-    }
+    })
 }
 
-fn take_tally(buf: &[u8]) -> Tally
+#[tactic(auto, using(crate::proofs::States::tally_at_law))]
+fn take_tally(buf: &[u8]) -> Option<Tally>
     requires { 600 ≤ length buf.now }
-    ensures { result ≡ tally_at buf.now }
+    ensures { result ≡ then_some (is_ending (num64 (drop 16 buf.now))) (tally_at buf.now) }
 {
     let place = octets::take64(buf, 8) as usize;
     let cut = octets::take64(buf, 24) as usize;
-    let ending = ending_of(octets::take64(buf, 16), cut);
+    let ending = ending_of(octets::take64(buf, 16), cut)?;
     let main = octets::take64(buf, 32) as usize;
     let events = octets::take64(buf, 40) as usize;
     let slow = octets::take64(buf, 48) as usize;
     let rejected = octets::take64(buf, 56) as usize;
-    let trials = octets::take64(buf, 64) as usize;
-    Tally {
+    Some(Tally {
         place,
         ending,
         counts: [main, events, slow, rejected],
-        trials,
-    }
-}
-
-fn none() -> TakenState
-    ensures { result ≡ no_state }
-{
-    TakenState {
-        is_one: false,
-        walk: Walk::start(),
-    }
+        trials: octets::take64(buf, 64) as usize,
+    })
 }
 
 // The walk that bytes are, if any. Bytes behind it are not looked at, nor is the cut's place where the walk has not ended in one.
-pub fn take(buf: &[u8]) -> TakenState
+#[tactic(auto, using(crate::proofs::States::taken_not), unfolding(crate::specs::State::taken_state, crate::specs::State::is_state))]
+pub fn take(buf: &[u8]) -> Option<Walk>
     ensures { TakeStateOwes buf.now result }
 {
-    if buf.len() < STATE {
-        return none();
+    if buf.len() < STATE || octets::take64(buf, 0) != STATE_VERSION {
+        return None;
     }
-    if octets::take64(buf, 0) != STATE_VERSION {
-        return none();
-    }
-    if !is_ending(octets::take64(buf, 16)) {
-        return none();
-    }
-    if !is_mark(octets::take32(buf, 72)) {
-        return none();
-    }
-    if !is_mark(octets::take32(buf, 336)) {
-        return none();
-    }
-    let tally = take_tally(buf);
-    let last = take_frame(buf, 72);
-    let older = take_frame(buf, 336);
-    TakenState {
-        is_one: true,
-        walk: Walk {
-            tally,
-            history: History { last, older },
-        },
-    }
+    let tally = take_tally(buf)?;
+    let last = take_frame(buf, 72)?;
+    let older = take_frame(buf, 336)?;
+    Some(Walk {
+        tally,
+        history: History { last, older },
+    })
 }
 
+#[tactic(auto, using(crate::proofs::States::put_frame_all))]
 fn put_frame(buf: &mut [u8], at: usize, f: MainFrame)
     requires { at + 264 ≤ length buf.old }
     ensures { buf.new ≡ sets buf.old at (frame_bytes f) }
 {
-    let mark = f.mark;
-    octets::put32(buf, at, mark_code(mark));
+    octets::put32(buf, at, mark_code(f.mark));
     octets::put32(buf, at + 4, f.iteration);
     octets::put64(buf, at + 8, f.time);
-    let values = f.values;
-    octets::put_values(buf, at + 16, &values[..62]);
+    octets::put_values(buf, at + 16, &f.values);
 }
 
+#[tactic(auto, unfolding(crate::specs::State::tally_bytes, octets::specs::Bytes::le64, octets::specs::Bytes::le32))]
 fn put_tally(buf: &mut [u8], t: Tally)
     requires { 600 ≤ length buf.old }
     ensures { buf.new ≡ sets buf.old 0 (tally_bytes t) }
 {
-    let ending = t.ending;
-    let counts = t.counts;
-    octets::put64(buf, 0, STATE_VERSION);
-    octets::put64(buf, 8, t.place as u64);
-    octets::put64(buf, 16, ending_code(ending));
-    octets::put64(buf, 24, cut_place(ending) as u64);
-    octets::put64(buf, 32, counts[0] as u64);
-    octets::put64(buf, 40, counts[1] as u64);
-    octets::put64(buf, 48, counts[2] as u64);
-    octets::put64(buf, 56, counts[3] as u64);
-    octets::put64(buf, 64, t.trials as u64);
+    let [main, events, slow, rejected] = t.counts;
+    octets::put_values(
+        buf,
+        0,
+        &[
+            STATE_VERSION,
+            t.place as u64,
+            ending_code(t.ending),
+            cut_place(t.ending) as u64,
+            main as u64,
+            events as u64,
+            slow as u64,
+            rejected as u64,
+            t.trials as u64,
+        ],
+    );
 }
 
 // Puts a walk in front of a buffer; one that is too short keeps its content.
+#[tactic(auto, using(crate::proofs::States::put_walk_all, crate::proofs::States::put_short))]
 pub fn put(buf: &mut [u8], w: Walk)
     ensures { PutStateOwes w buf.old buf.new }
 {
     if STATE <= buf.len() {
-        let tally = w.tally;
-        let history = w.history;
-        let last = history.last;
-        let older = history.older;
-        put_tally(buf, tally);
-        put_frame(buf, 72, last);
-        put_frame(buf, 336, older);
+        put_tally(buf, w.tally);
+        put_frame(buf, 72, w.history.last);
+        put_frame(buf, 336, w.history.older);
     }
 }

@@ -3,11 +3,11 @@ use Rattle.header.proofs.Lines.{end_within}
 use Rattle.header.proofs.Walking.{newer_here, newer_not}
 use Rattle.header.proofs.newer_value.Goals as goal
 
-pub slice_bounds-begins_with-end : goal.slice_bounds-begins_with-end
-slice_bounds-begins_with-end c = search end_within
+pub slice_bounds-starts_with-end : goal.slice_bounds-starts_with-end
+slice_bounds-starts_with-end c = search end_within
 
-pub returns-then-begins_with : goal.returns-then-begins_with
-returns-then-begins_with c = search newer_here
+pub returns-then-starts_with : goal.returns-then-starts_with
+returns-then-starts_with c = newer_here _ _ _ _ c.starts_with.ensures.value c.requires.1 c.if-starts_with.true
 
-pub returns : goal.returns
-returns c = search newer_not
+pub returns-else-starts_with : goal.returns-else-starts_with
+returns-else-starts_with c = newer_not _ _ _ _ c.starts_with.ensures.value c.requires.1 c.if-starts_with.false

@@ -4,8 +4,8 @@ use lib.ListN.{length}
 use Rattle.header.proofs.Walking.{Found}
 use Rattle.header.proofs.value.Given as goal
 
-abbrev pub invariant-loop-at : goal.invariant-loop-at
-invariant-loop-at l = Found l.text l.prefix l.at l.found
+abbrev pub invariant-loop-line : goal.invariant-loop-line
+invariant-loop-line l = Found l.text l.prefix l.at l.found
 
-abbrev pub decreases-loop-at : goal.decreases-loop-at
-decreases-loop-at l = length l.text - l.at
+abbrev pub decreases-loop-line : goal.decreases-loop-line
+decreases-loop-line l = length l.text - l.at

