@@ -2,10 +2,10 @@
 use Prim.Native.Nat.{ℕ, zero, suc}
 use mathlib.Core.Bool.{true≢false}
 use mathlib.Core.List.{[], ◌∷◌}
-use mathlib.Core.Option.{some}
 use mathlib.Core.Path.{◌≡◌, refl, sym, ap, ◌∙◌}
 use lib.ListN.{length, get_or}
 use native.Mathlib.Omega.{arith}
+use Rattle.std.specs.Prelude.{Some}
 use Rattle.section.specs.declared.Ending.TheVariants.{Going}
 use Rattle.calls.specs.Call.{after}
 use Rattle.resync.specs.Demand3.{IntraAlone, InterByLast, Demand3}
@@ -22,8 +22,8 @@ use Rattle.cases.proofs.Unfolded.{runs_open, whole_open}
 -- ## By computation
 
 -- both calls of a pair answer a frame at the first common byte, so both tried one there
-by_answers : (p : Pair) → (length (walk p).tally.counts ≡ 4) × ((walk p).tally.ending ≡ Going) × (tried_at (shows p 0).answer ≡ some (length p.pre))
-    → (length (walk' p).tally.counts ≡ 4) × ((walk' p).tally.ending ≡ Going) × (tried_at (shows' p 0).answer ≡ some (length p.pre')) → Try p
+by_answers : (p : Pair) → (length (walk p).tally.counts ≡ 4) × ((walk p).tally.ending ≡ Going) × (tried_at (shows p 0).answer ≡ Some (length p.pre))
+    → (length (walk' p).tally.counts ≡ 4) × ((walk' p).tally.ending ≡ Going) × (tried_at (shows' p 0).answer ≡ Some (length p.pre')) → Try p
 unfolding shown after
 by_answers p (four, going, at) (four', going', at') =
     record {

@@ -1,7 +1,6 @@
 -- Demand 3 on worked pairs of sections: a newer flight with the tail of an older one behind it,
 -- and for each premise a pair that misses it and has other frames.
-use Rattle.std.specs.Prelude.{ℕ, true, List, [], ◌∷◌, ◌++◌, ◌≡◌, length}
-use Rattle.std.proofs.Math.Option.{some}
+use Rattle.std.specs.Prelude.{ℕ, true, List, [], ◌∷◌, ◌++◌, ◌≡◌, length, Some}
 use Rattle.items.specs.Text.{ascii}
 use Rattle.plan.specs.declared.Definition.{Definition}
 use Rattle.reader.specs.declared.Kind.TheVariants.{Intra}
@@ -121,7 +120,7 @@ Flights p = IntraAt p 0 × ((shows p 0).fields ≡ 1300 ∷ []) × ((shows p 1).
 
 -- the frame that a look or a call shows stands at this place
 abbrev At : Shown → ℕ → Type 0
-At x p = frame_at x.answer ≡ some p
+At x p = frame_at x.answer ≡ Some p
 
 -- Here the bytes in common begin earlier. The walk of the cut section rejects its trial at 17 and searches over the two inter frames, to the intra frame at 28;
 -- that of the older flight accepts them, at 14 and 17. So the first common byte that both try is the intra frame's.

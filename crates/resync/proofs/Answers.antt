@@ -1,10 +1,10 @@
 -- What of an answer is the same n bytes further on, and what of it stays in its outline: all but its place, and all but a main frame's numbers.
+use Rattle.std.specs.Prelude.{option_map}
 use Prim.Native.Nat.{ℕ, ◌+◌}
 use mathlib.Core.Bool.{true, false, false≢true}
 use mathlib.Core.List.{List}
 use mathlib.Core.Path.{◌≡◌, refl}
 use Rattle.reader.specs.declared.Kind.{Kind}
-use Rattle.frame.specs.Past.{mapped}
 use Rattle.section.specs.declared.Answer.{Answer}
 use Rattle.section.specs.declared.Answer.TheVariants.{Passed, Rejected, Event, Intra, Inter, Slow, Over, Refused}
 use Rattle.section.specs.declared.Ending.{Ending}
@@ -43,10 +43,10 @@ module _ (n : ℕ) where
   from_over =
       by_answer (λ a. is_over (answer_from n a) ≡ is_over a) (λ x. refl) (λ x. refl) refl (λ k p. refl) (λ x. refl) (λ x. refl) (λ e. refl) (λ why. refl)
 
-  pub from_frame : (a : Answer) → frame_at (answer_from n a) ≡ mapped (λ q. n + q) (frame_at a)
-  unfolding frame_at answer_from mapped
+  pub from_frame : (a : Answer) → frame_at (answer_from n a) ≡ option_map (λ q. n + q) (frame_at a)
+  unfolding frame_at answer_from
   from_frame =
-      by_answer (λ a. frame_at (answer_from n a) ≡ mapped (λ q. n + q) (frame_at a))
+      by_answer (λ a. frame_at (answer_from n a) ≡ option_map (λ q. n + q) (frame_at a))
       (λ x. refl) (λ x. refl) refl (λ k p. refl) (λ x. refl) (λ x. refl) (λ e. refl) (λ why. refl)
 
   pub outline_from : (x : Shown) → outline (from n x) ≡ from n (outline x)

@@ -1,8 +1,8 @@
 -- A look or a call that shows a trial, accepted, rejected or cut, tried a frame there: so whoever has the answers has the premise of demand 3.
+use Rattle.std.specs.Prelude.{Option, Some, None, is_some}
 use Prim.Native.Nat.{ℕ, suc, ◌<◌}
 use mathlib.Core.Bool.{Bool, true, false, true≢false}
 use mathlib.Core.List.{List, [], ◌∷◌}
-use mathlib.Core.Option.{some, some-injective, none-ne-some}
 use mathlib.Core.Path.{◌≡◌, refl, sym, ap, ◌∙◌}
 use native.Mathlib.Decide.{dec_lt}
 use native.Mathlib.Omega.{arith}
@@ -10,8 +10,7 @@ use lib.ListN.{length, drop, get_or}
 use lib.Seq.{get_or-drop}
 use Rattle.plan.specs.declared.Definition.{Definition}
 use Rattle.plan.specs.Plan.{Shape, shape}
-use Rattle.reader.specs.declared.Letter.{Letter}
-use Rattle.reader.specs.declared.Letter.TheVariants.{Is, Other}
+use Rattle.reader.specs.declared.Kind.{Kind}
 use Rattle.reader.specs.Search.{letter_of}
 use Rattle.raws.specs.declared.Raw.{Raw}
 use Rattle.history.specs.declared.History.{History}
@@ -20,7 +19,7 @@ use Rattle.extent.specs.declared.Found.TheVariants.{Event, Intra, Inter, Slow}
 use Rattle.extent.specs.declared.Look.{Look}
 use Rattle.extent.specs.declared.Seen.{Seen}
 use Rattle.extent.specs.declared.Seen.TheVariants.{Nothing, Passed, Rejected, Cutoff, Accepted}
-use Rattle.extent.specs.Extent.{is_kind, begun, look}
+use Rattle.extent.specs.Extent.{begun, look}
 use Rattle.section.specs.declared.Ending.TheVariants.{Going}
 use Rattle.section.specs.declared.Walk.{Walk}
 use Rattle.section.specs.Walk.{Outcome, answer_with, answer_after, settled, tick}
@@ -38,31 +37,31 @@ use Rattle.resync.proofs.Promised.{Owes, answer_is}
 -- ## A look that shows a trial
 
 module _ (d : Definition) (x : Raw) (h : History) (q p : ℕ) where
-  frame_place : (f : Found) → tried_at (answer_with d f q x h) ≡ some p → q ≡ p
+  frame_place : (f : Found) → tried_at (answer_with d f q x h) ≡ Some p → q ≡ p
   unfolding answer_with tried_at
-  frame_place (Event e) is = some-injective q p is
-  frame_place Intra is = some-injective q p is
-  frame_place Inter is = some-injective q p is
-  frame_place Slow is = some-injective q p is
+  frame_place (Event e) is = cc
+  frame_place Intra is = cc
+  frame_place Inter is = cc
+  frame_place Slow is = cc
 
   -- it stands where the look was
-  seen_place : (e : Seen) → tried_at (answer_after d e q x h) ≡ some p → q ≡ p
+  seen_place : (e : Seen) → tried_at (answer_after d e q x h) ≡ Some p → q ≡ p
   unfolding answer_after tried_at
-  seen_place Nothing is = absurd (none-ne-some p is)
-  seen_place (Passed k) is = absurd (none-ne-some p is)
-  seen_place (Rejected k j) is = some-injective q p is
-  seen_place (Cutoff k) is = some-injective q p is
+  seen_place Nothing is = absurd (cc)
+  seen_place (Passed k) is = absurd (cc)
+  seen_place (Rejected k j) is = cc
+  seen_place (Cutoff k) is = cc
   seen_place (Accepted f m) is = frame_place f is
 
-  begun_kind : (y : Shape) (l : Letter) (c : List ℕ) → tried_at (answer_after d (begun y l c).seen q x h) ≡ some p → is_kind l ≡ true
-  unfolding begun answer_after tried_at is_kind
-  begun_kind y (Is k) c is = refl
-  begun_kind y Other c is = absurd (none-ne-some p is)
+  begun_kind : (y : Shape) (l : Option Kind) (c : List ℕ) → tried_at (answer_after d (begun y l c).seen q x h) ≡ Some p → is_some l ≡ true
+  unfolding begun answer_after tried_at
+  begun_kind y (Some k) c is = refl
+  begun_kind y None c is = absurd (cc)
 
   -- and its first byte is one of the six
-  look_kind : (y : Shape) (c : List ℕ) → tried_at (answer_after d (look y c).seen q x h) ≡ some p → is_kind (letter_of (get_or c 0 0)) ≡ true
+  look_kind : (y : Shape) (c : List ℕ) → tried_at (answer_after d (look y c).seen q x h) ≡ Some p → is_some (letter_of (get_or c 0 0)) ≡ true
   unfolding look answer_after tried_at
-  look_kind y [] is = absurd (none-ne-some p is)
+  look_kind y [] is = absurd (cc)
   look_kind y (b ∷ c) is = begun_kind y (letter_of b) c is
 
 -- an accepted frame says something
@@ -85,7 +84,7 @@ seen_vain d (Accepted f m) x h q vain = absurd (true≢false (sym (frame_says d 
 -- a walk that goes on stands at p, at one of the six bytes
 record Trying (s : List ℕ) (v : Walk) (p : ℕ) : Type 0 where
   place : v.tally.place ≡ p
-  kind : is_kind (letter_of (get_or s p 0)) ≡ true
+  kind : is_some (letter_of (get_or s p 0)) ≡ true
 
 module _ (d : Definition) (s : List ℕ) (v : Walk) (going : v.tally.ending ≡ Going) where
   abbrev seen : Look
@@ -94,10 +93,10 @@ module _ (d : Definition) (s : List ℕ) (v : Walk) (going : v.tally.ending ≡ 
   goes : tick d s v ≡ settled d seen (length s) v
   goes = tick_going d s v going
 
-  tick_tries : (p : ℕ) → tried_at (tick d s v).answer ≡ some p → Trying s v p
+  tick_tries : (p : ℕ) → tried_at (tick d s v).answer ≡ Some p → Trying s v p
   unfolding settled
   tick_tries p shows =
-      let is : tried_at (answer_after d seen.seen v.tally.place seen.raw v.history) ≡ some p =
+      let is : tried_at (answer_after d seen.seen v.tally.place seen.raw v.history) ≡ Some p =
       sym (ap (λ (o : Outcome). tried_at o.answer) goes) ∙ shows in
       let at : v.tally.place ≡ p = seen_place d seen.raw v.history v.tally.place p seen.seen is in
       let byte : get_or (drop v.tally.place s) 0 0 ≡ get_or s p 0 = get_or-drop v.tally.place s 0 0 ∙ ap (λ i. get_or s i 0) (omega arith) in
@@ -153,7 +152,7 @@ module _ (d : Definition) (s : List ℕ) (w : Walk) (p : ℕ) (four : length w.t
       ap (λ (u : Walk). length u.tally.counts) (sym comes)
       ∙ after_keeps (tick d s) (λ u. length u.tally.counts ≡ 4) (λ u e. tick_counts d s u ∙ e) n w four
 
-  from_vain : (v : Walk) → InVain d s w v → tried_at (tick d s v).answer ≡ some p → Tries d s w p
+  from_vain : (v : Walk) → InVain d s w v → tried_at (tick d s v).answer ≡ Some p → Tries d s w p
   from_vain v i is =
       let st = tick_tries d s v i.going p is in
       record {
@@ -167,16 +166,16 @@ module _ (d : Definition) (s : List ℕ) (w : Walk) (p : ℕ) (four : length w.t
         four = four_after i.looks v i.comes;
       }
 
-  pub look_tries : tried_at (tick d s w).answer ≡ some p → Tries d s w p
+  pub look_tries : tried_at (tick d s w).answer ≡ Some p → Tries d s w p
   look_tries = from_vain w (vain_none d s w going)
 
-  pub call_tries : tried_at (called d s w).answer ≡ some p → Tries d s w p
+  pub call_tries : tried_at (called d s w).answer ≡ Some p → Tries d s w p
   call_tries is = let c = called_look d s w going in from_vain c.0 c.1 (sym (ap (λ (o : Outcome). tried_at o.answer) c.2) ∙ is)
 
 -- read off the code
 promise_tries : (step : Definition → List ℕ → Walk → Outcome)
     → ((d : Definition) (s : List ℕ) (w : Walk) (p : ℕ) → length w.tally.counts ≡ 4
-    → w.tally.ending ≡ Going → tried_at (step d s w).answer ≡ some p → Tries d s w p)
+    → w.tally.ending ≡ Going → tried_at (step d s w).answer ≡ Some p → Tries d s w p)
     → SeenTrying (λ d s. Owes d s (step d s))
 promise_tries step tries d s w p out r after h four going roomy owes is =
     tries d s w p four going (sym (ap tried_at (answer_is d s (step d s) w h out roomy r after owes)) ∙ is)

@@ -1,9 +1,9 @@
 -- From what `Both` says of each step: which frames are the same.
 -- An intra frame that reads no history is; behind two of them, or behind one where no inter frame reads older, so is every later step.
+use Rattle.std.specs.Prelude.{Some}
 use Prim.Native.Nat.{ℕ, zero, suc, ◌+◌, ◌-◌, ◌<◌, ◌≤◌}
 use mathlib.Core.Bool.{true, false, true≢false}
 use mathlib.Core.Logic.{◌⊎◌, inl, inr}
-use mathlib.Core.Option.{some}
 use mathlib.Core.Path.{◌≡◌, refl, sym, ap, ◌∙◌}
 use native.Mathlib.Nat.{zero-add, suc-add}
 use native.Mathlib.Omega.{arith}
@@ -32,7 +32,7 @@ past_path g h last older = λ i. record { last = last i; older = older i }
 
 -- equal, or behind one and the same intra frame
 abbrev Ready : Past → Past → Type 0
-Ready g g' = (g ≡ g') ⊎ ((f : Body) × (g.last ≡ some f) × (g'.last ≡ some f) × (f.inter ≡ false))
+Ready g g' = (g ≡ g') ⊎ ((f : Body) × (g.last ≡ Some f) × (g'.last ≡ Some f) × (f.inter ≡ false))
 
 ready_last : (g g' : Past) → Ready g g' → g.last ≡ g'.last
 ready_last g g' (inl same) = ap (λ (p : Past). p.last) same
@@ -53,9 +53,9 @@ module _ (d : Definition) (b b' : ℕ) where
   same_inter : InterByLast d → (g g' : Past) (x : Raw) → Ready g g' → inter_by g x ≡ inter_by g' x
   same_inter by_Last g g' x (inl same) = ap (λ p. inter_by p x) same
   same_inter by_Last g g' x (inr (f, here, there, is)) =
-      ap (λ p. inter_by p x) (past_path g (past_of (some f) g.older) here refl)
+      ap (λ p. inter_by p x) (past_path g (past_of (Some f) g.older) here refl)
       ∙ inter_behind_intra (shape d) (rules d) f g.older g'.older x by_Last is
-      ∙ sym (ap (λ p. inter_by p x) (past_path g' (past_of (some f) g'.older) there refl))
+      ∙ sym (ap (λ p. inter_by p x) (past_path g' (past_of (Some f) g'.older) there refl))
 
   module _ {make : Past → Raw → MainFrame} {tell : MainAnswer → Answer} {g g' : Past} {e e' : Shown}
       {h h' : Past} (m : Made (fields d.main) make tell b b' g g' e e' h h') where

@@ -1,4 +1,5 @@
 -- Two tallies that are level stay so over one look, whatever it saw: a look moves the place, the ending and every count alike, wherever the section begins.
+use Rattle.std.specs.Prelude.{unwrap_or}
 use Prim.Native.Nat.{ℕ, ◌+◌, ◌<◌}
 use mathlib.Core.Bool.{Bool, true, false, cond}
 use mathlib.Core.List.{List, ◌++◌}
@@ -26,8 +27,8 @@ use Rattle.resync.specs.From.{ending_from, SameEnding, AsMuch}
 place_level : (x : Seen) (b b' z p p' : ℕ) → AsMuch b p b' p' → AsMuch b (place_after x (b + z) p) b' (place_after x (b' + z) p')
 unfolding place_after
 place_level Nothing b b' z p p' far = far
-place_level (Passed s) b b' z p p' (n, e, e') = (n + 1 + s.by, omega arith, omega arith)
-place_level (Rejected k s) b b' z p p' (n, e, e') = (n + 1 + s.by, omega arith, omega arith)
+place_level (Passed s) b b' z p p' (n, e, e') = (n + 1 + unwrap_or s 0, omega arith, omega arith)
+place_level (Rejected k s) b b' z p p' (n, e, e') = (n + 1 + unwrap_or s 0, omega arith, omega arith)
 place_level (Cutoff k) b b' z p p' far = (z, refl, refl)
 place_level (Accepted f m) b b' z p p' (n, e, e') = (n + 1 + m, omega arith, omega arith)
 

@@ -1,7 +1,6 @@
 -- Demand 3, said of the code: of runs of the library's own `look` and `call`, and of whole walks by `through` and `count`,
 -- of which nothing is known but their promises.
-use Rattle.std.specs.Prelude.{ℕ, suc, ◌<◌, ◌≤◌, true, List, [], ◌++◌, ◌≡◌, length, take}
-use Rattle.std.proofs.Math.Option.{some}
+use Rattle.std.specs.Prelude.{Some, ℕ, suc, ◌<◌, ◌≤◌, true, List, [], ◌++◌, ◌≡◌, length, take}
 use Rattle.plan.specs.declared.Definition.{Definition}
 use Rattle.plan.specs.Sound.{sound}
 use Rattle.section.specs.declared.Answer.{Answer}
@@ -95,4 +94,4 @@ abbrev pub SeenTrying : (Definition → List ℕ → Promise) → Type 0
 SeenTrying Owes =
     (d : Definition) (s : List ℕ) (w : Walk) (p : ℕ) (out : List ℕ) (r : Looked) (after : List ℕ)
     → admitted d (length s) w ≡ true → length w.tally.counts ≡ 4 → w.tally.ending ≡ Going → needed d ≤ length out
-    → Owes d s w out r after → tried_at r.answer ≡ some p → Tries d s w p
+    → Owes d s w out r after → tried_at r.answer ≡ Some p → Tries d s w p

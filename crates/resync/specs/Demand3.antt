@@ -1,12 +1,11 @@
 -- Demand 3, as a statement over the definition of demand 2: two sections, `pre ++ c` and `pre' ++ c`, end in the same bytes `c`, and both walks,
 -- in any states, try a frame at the first byte of `c`.
 -- By itself it would hold of a walk that always gives the same answer too; that `tick` and `called` are the rules' walk, and the code's, is demand 2.
-use Rattle.std.specs.Prelude.{ℕ, ◌<◌, true, false, List, ◌++◌, ◌≡◌, length, get_or}
+use Rattle.std.specs.Prelude.{ℕ, ◌<◌, true, false, List, ◌++◌, ◌≡◌, length, get_or, is_some}
 use Rattle.reader.specs.Search.{letter_of}
 use Rattle.plan.specs.declared.Definition.{Definition}
 use Rattle.plan.specs.Plan.{rules}
 use Rattle.predictor.specs.Histories.{reads_last, reads_older, none_reads}
-use Rattle.extent.specs.Extent.{is_kind}
 use Rattle.section.specs.declared.Ending.TheVariants.{Going}
 use Rattle.section.specs.declared.Tally.{Tally}
 use Rattle.section.specs.declared.Walk.{Walk}
@@ -24,7 +23,7 @@ pub record Tries (d : Definition) (s : List ℕ) (w : Walk) (p : ℕ) : Type 0 w
   pub comes : after (tick d s) looks w ≡ there
   pub place : there.tally.place ≡ p
   pub going : there.tally.ending ≡ Going
-  pub kind : is_kind (letter_of (get_or s p 0)) ≡ true
+  pub kind : is_some (letter_of (get_or s p 0)) ≡ true
   -- an array of four, which the type of lists does not say
   pub four : length there.tally.counts ≡ 4
 

@@ -1,6 +1,5 @@
 -- What two steps have in common that are read from two places: all but the place that they count from.
-use Rattle.std.specs.Prelude.{ℕ, ◌+◌, List, [], ◌≡◌, take, drop}
-use Rattle.std.proofs.Math.Option.{Option, none, some}
+use Rattle.std.specs.Prelude.{Option, None, Some, ℕ, ◌+◌, List, [], ◌≡◌, take, drop}
 use Rattle.section.specs.declared.Answer.{Answer}
 use Rattle.section.specs.declared.Answer.TheVariants.{Passed, Rejected, Event, Intra, Inter, Slow, Over, Refused}
 use Rattle.section.specs.declared.Ending.{Ending}
@@ -64,37 +63,37 @@ outline x = outline_of x.answer x.fields
 
 -- where the kind byte of an accepted frame stands
 unfoldable pub frame_at : Answer → Option ℕ
-frame_at Passed = none
-frame_at (Rejected k p) = none
-frame_at (Event x) = some x.at
-frame_at (Intra x) = some x.at
-frame_at (Inter x) = some x.at
-frame_at (Slow x) = some x.at
-frame_at (Over e) = none
-frame_at (Refused why) = none
+frame_at Passed = None
+frame_at (Rejected k p) = None
+frame_at (Event x) = Some x.at
+frame_at (Intra x) = Some x.at
+frame_at (Inter x) = Some x.at
+frame_at (Slow x) = Some x.at
+frame_at (Over e) = None
+frame_at (Refused why) = None
 
 -- where a walk was cut
 abbrev pub cut_at : Ending → Option ℕ
-cut_at Going = none
-cut_at Done = none
-cut_at Out = none
-cut_at (Cut k p) = some p
+cut_at Going = None
+cut_at Done = None
+cut_at Out = None
+cut_at (Cut k p) = Some p
 
 -- where a trial that a look shows was made: accepted, rejected or cut
 unfoldable pub tried_at : Answer → Option ℕ
-tried_at Passed = none
-tried_at (Rejected k p) = some p
-tried_at (Event x) = some x.at
-tried_at (Intra x) = some x.at
-tried_at (Inter x) = some x.at
-tried_at (Slow x) = some x.at
+tried_at Passed = None
+tried_at (Rejected k p) = Some p
+tried_at (Event x) = Some x.at
+tried_at (Intra x) = Some x.at
+tried_at (Inter x) = Some x.at
+tried_at (Slow x) = Some x.at
 tried_at (Over e) = cut_at e
-tried_at (Refused why) = none
+tried_at (Refused why) = None
 
 -- the bytes of an accepted frame: from its kind byte to the place behind it
 abbrev pub stretch : (section : List ℕ) → (behind : ℕ) → Option ℕ → List ℕ
-stretch s p none = []
-stretch s p (some q) = drop q (take p s)
+stretch s p None = []
+stretch s p (Some q) = drop q (take p s)
 
 abbrev pub bytes_of : (section : List ℕ) → Answer → (behind : ℕ) → List ℕ
 bytes_of s a p = stretch s p (frame_at a)

@@ -21,8 +21,7 @@ use Rattle.section.specs.declared.Answer.TheVariants as answer
 use Rattle.section.specs.declared.MainAnswer.{MainAnswer}
 use Rattle.section.specs.declared.Tally.{Tally}
 use Rattle.section.specs.Answers.{paper_of, Told, handed}
-use Rattle.section.specs.Walk.{intra_of, inter_of, main_answer, history_with, answer_with, fields_with}
-use Rattle.section.specs.Walk.{outcome}
+use Rattle.section.specs.Walk.{intra_of, inter_of, main_answer, history_with, answer_with, fields_with, outcome}
 
 -- an answer without fields, behind fields that are put
 hands : (t : Tally) (vs out : List ℕ) {a b : Answer} {g h : History} {after : List ℕ} → a ≡ b → g ≡ h → after ≡ sets out 0 vs
