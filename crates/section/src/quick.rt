@@ -15,6 +15,7 @@ use history::Heads;
 use plan::Definition;
 
 // A walk but for the values of its main frames.
+// It stays beside `Walk`: the edits parts_exchanged and trials_left_behind say wrong things of taking a walk apart and putting it together.
 #[derive(Clone, Copy)]
 pub struct Light {
     pub tally: Tally,

@@ -15,6 +15,7 @@ use section::quick::Settled;
 use section::{Answer, Looked, Refusal, Tally, Walk};
 
 // Where a walk is to stop: at its end, or at a frame of a sort, counted from 0.
+// An Option of a pair would be no plainer: its None would not say that the walk goes to its end.
 #[derive(Clone, Copy)]
 pub enum Goal {
     End,
