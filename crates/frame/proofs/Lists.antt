@@ -1,5 +1,5 @@
 -- Fields read by lists of their own: numbers in 62 rooms make the values that the numbers make, and what the code answers is what is read.
-use Rattle.std.proofs.Common.{◌≡◌, ℕ, ◌<◌, ◌≤◌, Bool, true, false, cond, not, List, length, get_or, take, replicate, sym, refl, Option}
+use Rattle.std.proofs.Common.{◌≡◌, ℕ, ◌<◌, ◌≤◌, Bool, true, false, cond, not, List, length, get_or, take, replicate, sym, Option}
 use Rattle.std.proofs.Common.{ap, ◌∙◌, arith, length-take, Result, Ok, Err, IsErrAnd}
 use Rattle.std.proofs.lemmas.Result.{err_from_is_err_and}
 use lib.Seq.{sets-eq, take-append-le}
@@ -16,7 +16,7 @@ use Rattle.reader.specs.declared.Cursor.{Cursor}
 use Rattle.reader.specs.declared.Fault.{Fault}
 use Rattle.reader.specs.declared.Fault.TheVariants as fault
 use Rattle.reader.specs.Got.{Got, got, cut, corrupt, over}
-use Rattle.reader.specs.Place.{rest, on, read_at, padded}
+use Rattle.reader.specs.Place.{rest, read_at, padded}
 use Rattle.reader.proofs.Every.{Counts, Every, drop_each}
 use Rattle.reader.proofs.Reading.{ok_parts}
 use Rattle.frame.specs.declared.fields.Context.{Context}

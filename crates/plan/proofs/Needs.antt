@@ -97,7 +97,8 @@ unmet_below numbers motor i (p ∷ ps) (q ∷ qs) {j} e = either (met numbers mo
 pub record Passed {R : Type 0} (whole : R) (a b : ℕ → ℕ → Bool) (done : R) (stop : ℕ → R) (n : ℕ) (ps qs : List ℕ) (i : ℕ) : Type 0 where
   pub is : whole ≡ judged a b done stop i (drop i (take n ps)) (drop i (take n qs))
 
-module _ {R : Type 0} {whole : R} {a b : ℕ → ℕ → Bool} {done : R} {stop : ℕ → R} {n : ℕ} {ps qs : List ℕ} {i : ℕ} (before : Passed whole a b done stop n ps qs i) where
+module _ {R : Type 0} {whole : R} {a b : ℕ → ℕ → Bool} {done : R} {stop : ℕ → R} {n : ℕ} {ps qs : List ℕ} {i : ℕ}
+    (before : Passed whole a b done stop n ps qs i) where
   -- field i, and what lies behind it
   next : i < n → i < length ps → i < length qs
       → whole
