@@ -110,7 +110,8 @@ module _ (k : Kind) (s : List ℕ) (c : Cursor) {g : Got Content} where
     pub accepted : {y : Look} → b ≡ true → y ≡ record { seen = Accepted x.frame (q.at - c.at); raw = x.raw } → y ≡ judged k (rest c s) g
     accepted is e = e ∙ sym (read_on ∙ rw is)
 
-    pub not_closed : {p : RestorePoint} {y : Look} → b ≡ false → p ≡ point_of c → y ≡ bare (Rejected k (ahead (rest (place_of p) s))) → y ≡ judged k (rest c s) g
+    pub not_closed : {p : RestorePoint} {y : Look} → b ≡ false → p ≡ point_of c → y ≡ bare (Rejected k (ahead (rest (place_of p) s)))
+        → y ≡ judged k (rest c s) g
     not_closed open-end point e = e ∙ ap (λ j. bare (Rejected k j)) (from_point s c point) ∙ sym (read_on ∙ rw open-end)
 
   pub no_frame : {p : RestorePoint} {y : Look} → g ≡ corrupt → p ≡ point_of c → y ≡ bare (Rejected k (ahead (rest (place_of p) s))) → y ≡ judged k (rest c s) g

@@ -143,6 +143,7 @@ fn judge(
     }
 }
 
+// Beside `judge`, though much like it: the edit search_behind_the_event says a wrong thing of the search behind an event alone.
 fn try_event(s: &[u8], from: Cursor, barren: bool, out: &mut [u32; 62]) -> Glance
     requires { Barren barren s.now from.at }
     ensures { beside result out.new ≡ judged Event (rest from s.now) (over told (event_read (rest from s.now))) }

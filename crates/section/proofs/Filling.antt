@@ -23,3 +23,12 @@ in_front zero (v ∷ vs) (x ∷ l) e = absurd (omega arith)
 in_front (suc n) [] l e = absurd (omega arith)
 in_front (suc n) (v ∷ vs) [] e = absurd (omega arith)
 in_front (suc n) (v ∷ vs) (x ∷ l) e = ap (λ r. v ∷ r) (in_front n vs l (omega arith)) ∙ sym (sets_behind v l 0 vs)
+
+-- no more values are there than there are
+pub cut_same : (k n : ℕ) (l : List ℕ) → n ≡ min k (length l) → take n l ≡ take k l
+cut_same zero zero l e = refl
+cut_same zero (suc n) l e = absurd (omega arith)
+cut_same (suc k) zero [] e = refl
+cut_same (suc k) zero (x ∷ l) e = absurd (omega arith)
+cut_same (suc k) (suc n) [] e = absurd (omega arith)
+cut_same (suc k) (suc n) (x ∷ l) e = ap (λ r. x ∷ r) (cut_same k n l (omega arith))

@@ -19,7 +19,8 @@ use Rattle.section.specs.declared.Walk.{Walk}
 use Rattle.section.specs.Answers.{Told, told}
 use Rattle.section.specs.Lent.{light_of, walk_of}
 use Rattle.section.specs.Refusals.{Check}
-use Rattle.section.specs.Owes.{IsOverOwes, StartOwes, AdmitsOwes, RoomNeededOwes, CheckOwes, PutOwes, FieldsOfOwes, RefusedOwes, OverOwes, AfterOwes, SettleOwes, LightOwes, ValuesOwes, WithOwes, HandOutOwes, SettleInOwes, LookOwes}
+use Rattle.section.specs.Owes.{IsOverOwes, StartOwes, AdmitsOwes, RoomNeededOwes, CheckOwes, PutOwes, FieldsOfOwes, RefusedOwes, OverOwes}
+use Rattle.section.specs.Owes.{AfterOwes, SettleOwes, LightOwes, ValuesOwes, WithOwes, HandOutOwes, SettleInOwes, LookOwes}
 use Rattle.section.proofs.Paper.{paper_injective, found_injective}
 
 -- what is told says the answer and the buffer

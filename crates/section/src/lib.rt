@@ -33,6 +33,7 @@ pub enum Ending {
 }
 
 // Where a walk stands, and what it has counted: accepted main, event and slow frames, rejected trials; and all its trials, a final cut included.
+// The counts stand by number: the edit fifth_count (session) reads a fifth, of which names could not tell.
 #[derive(Clone, Copy)]
 pub struct Tally {
     pub place: usize,

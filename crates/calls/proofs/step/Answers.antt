@@ -11,9 +11,6 @@ step_in-stepped-requires c =
       barren = apart_barren c.args.d _ c.args.w c.light.ensures c.values-values.ensures c.requires.barren;
     }
 
-pub hand_out-requires : goal.hand_out-requires
-hand_out-requires c = most c.args.d c.requires.w_admitted.1
-
 pub returns : goal.returns
 returns c =
     joined _ _ _ c.light.ensures c.values-values.ensures c.requires.w_admitted.0 _ _ _ c.step_in-stepped.ensures

@@ -17,9 +17,6 @@ pub step_in-stepped-requires : goal.step_in-stepped-requires
 step_in-stepped-requires c =
     let t = c.loop-goal.invariant.0.ready in record { walk_admitted = (t.kept.so, ready_rooms _ _ t refl); barren = t.right }
 
-pub hand_out-requires : goal.hand_out-requires
-hand_out-requires c = ready_rooms _ _ c.loop-goal.invariant.0.ready refl
-
 pub returns-then-is_last : goal.returns-then-is_last
 returns-then-is_last c =
     turn_last _ _ _ (light_whole c.args.w c.light-walk.ensures c.values-values.ensures) c.loop-goal.values c.loop-goal.invariant.0 _ _ c.step_in-stepped.ensures
