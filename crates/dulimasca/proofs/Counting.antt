@@ -1,6 +1,6 @@
 -- The ways through `dulimasca_start` and `dulimasca_count`: short buffers, a state that has not begun; no definition, one that is not sound, a count.
-use Prim.Native.Nat.{ℕ, ◌<◌, ◌≤◌}
-use Rattle.std.specs.Prelude.{Result, Ok, Err}
+use Prim.Native.Nat.{ℕ}
+use Rattle.std.specs.Prelude.{Ok, Err}
 use Rattle.std.specs.Option.{ok_or}
 use mathlib.Core.Bool.{Bool, true, false, cond}
 use mathlib.Core.List.{List, [], ◌∷◌, ◌++◌}
@@ -29,7 +29,7 @@ use Rattle.octets.specs.Bytes.{longs}
 use Rattle.dulimasca.specs.Calls.{count_reply, count_by, count_of}
 use Rattle.dulimasca.specs.Define.{start_of}
 use Rattle.dulimasca.specs.Owes.{StartOwes, CountOwes}
-use Rattle.dulimasca.specs.Told.{Reply, packed, packed_by, roomy, told_length, reply, telling, refuse, refuse10, if_room, status_by, tally_numbers}
+use Rattle.dulimasca.specs.Told.{Reply, packed_by, roomy, told_length, reply, telling, refuse, if_room, status_by, tally_numbers}
 use Rattle.dulimasca.proofs.Replying.{tells, packed_short, long_enough, too_short, room_there, room_short}
 use Rattle.dulimasca.proofs.Taken.{taken, not_taken}
 

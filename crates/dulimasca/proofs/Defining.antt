@@ -1,14 +1,14 @@
 -- The ways through `dulimasca_settings` and `dulimasca_define`: bytes that are no settings, short buffers, a log that passes, one that is refused.
-use Prim.Native.Nat.{ℕ, ◌<◌, ◌≤◌}
+use Prim.Native.Nat.{ℕ, ◌≤◌}
 use mathlib.Core.List.{List, []}
 use mathlib.Core.Path.{◌≡◌, sym, ap, ◌∙◌}
 use lib.ListN.{length}
 use lib.Seq.{sets}
 use mathlib.Core.Bool.{Bool, true, false, cond}
-use Rattle.std.specs.Prelude.{Option, Some, None, Result, Ok, Err}
+use Rattle.std.specs.Prelude.{Ok, Err}
 use native.Mathlib.Omega.{arith}
 use lib.Dec.{leb}
-use borrow.Author.Tests.{le-leb, lt-leb, leb-true, leb-false}
+use borrow.Author.Tests.{le-leb, lt-leb}
 use Rattle.reader.specs.Place.{padded}
 use Rattle.plan.specs.declared.Numbers.{Numbers}
 use Rattle.plan.specs.declared.Settings.{Settings}
@@ -19,7 +19,7 @@ use Rattle.definition.specs.declared.Paper.{Paper}
 use Rattle.definition.specs.declared.Refusal.{Refusal}
 use Rattle.section.specs.declared.Refusal as section
 use Rattle.section.specs.declared.Refusal.TheVariants.{Unsound, TooShort}
-use Rattle.section.specs.Refusals.{Check, pass}
+use Rattle.section.specs.Refusals.{Check}
 use Rattle.definition.specs.Checks.{found, paper_of}
 use Rattle.definition.specs.Defined.{defined, told as answer_of}
 use Rattle.octets.specs.Bytes.{longs}

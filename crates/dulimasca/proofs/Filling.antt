@@ -1,9 +1,9 @@
 -- The ways through `dulimasca_fill`: no definition, no such kind, a refusal, no room for the numbers, a frame or how the walk ended before it.
 -- A frame's fields are the first values of the inner buffer.
-use Prim.Native.Nat.{ℕ, ◌*◌, ◌/◌, ◌<◌, ◌≤◌}
-use Rattle.std.specs.Prelude.{Option, Some, None, Result, Ok, Err}
+use Prim.Native.Nat.{ℕ, ◌*◌, ◌/◌, ◌≤◌}
+use Rattle.std.specs.Prelude.{Option, Ok, Err}
 use Rattle.std.specs.Option.{ok_or}
-use mathlib.Core.Bool.{true, false}
+use mathlib.Core.Bool.{true}
 use mathlib.Core.List.{List}
 use mathlib.Core.Path.{◌≡◌, refl, sym, ap, ap₂, ◌∙◌}
 use native.Mathlib.Nat.{one-mul}
@@ -34,7 +34,7 @@ use Rattle.section.proofs.Fields.{begins_with, hands_out_rooms, hands_out_few}
 use Rattle.walks.proofs.Fields.{walked_full}
 use Rattle.dulimasca.specs.Calls.{fill_numbers, filled, checked_fill, fill_by, fill_of}
 use Rattle.dulimasca.specs.Owes.{FillOwes}
-use Rattle.dulimasca.specs.Told.{Reply, packed, packed_by, in_bytes, roomy, told_length, reply, refuse, refuse10, if_room, sort_for}
+use Rattle.dulimasca.specs.Told.{packed, packed_by, in_bytes, roomy, told_length, reply, if_room, sort_for}
 use Rattle.dulimasca.proofs.Replying.{tells, long_enough, room_there, room_short}
 use Rattle.dulimasca.proofs.Taken.{given, missing, taken, not_taken}
 

@@ -1,9 +1,9 @@
 -- The ways through `dulimasca_rows`: no definition, no state, a refusal, no room for the numbers, rows and the walk behind them.
 use Prim.Native.Nat.{ℕ, ◌/◌, ◌<◌, ◌≤◌}
-use Rattle.std.specs.Prelude.{Option, Result, Ok, Err}
+use Rattle.std.specs.Prelude.{Ok, Err}
 use Rattle.std.specs.Option.{ok_or}
 use mathlib.Core.List.{List, [], ◌∷◌, ◌++◌}
-use mathlib.Core.Path.{◌≡◌, refl, sym, ap, ◌∙◌}
+use mathlib.Core.Path.{◌≡◌, sym, ap, ◌∙◌}
 use lib.ListN.{length}
 use lib.Seq.{sets}
 use borrow.Author.Tests.{le-leb, lt-leb}
@@ -20,9 +20,9 @@ use Rattle.rows.proofs.Checked.{check_is, next_kept}
 use Rattle.store.specs.Definition.{taken_definition}
 use Rattle.store.specs.State.{taken_state, with_state}
 use Rattle.octets.specs.Bytes.{longs}
-use Rattle.dulimasca.specs.Calls.{RowsReply, kept, rows_reply, checked_reply, rows_by, rows_of}
+use Rattle.dulimasca.specs.Calls.{kept, rows_reply, checked_reply, rows_by, rows_of}
 use Rattle.dulimasca.specs.Owes.{RowsOwes}
-use Rattle.dulimasca.specs.Told.{packed, packed_by, told_length, reply, refuse, refuse10, status_by, tally_numbers}
+use Rattle.dulimasca.specs.Told.{packed_by, told_length, reply, status_by, tally_numbers}
 use Rattle.dulimasca.proofs.Replying.{tells, packed_short}
 use Rattle.dulimasca.proofs.Taken.{taken, not_taken, walk_taken, walk_not_taken}
 

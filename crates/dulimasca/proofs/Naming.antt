@@ -1,6 +1,6 @@
 -- The ways through `dulimasca_name`: no definition, no such kind, no room for the numbers, a name, none.
 use Prim.Native.Nat.{ℕ}
-use Rattle.std.specs.Prelude.{Option, Some, None, Result, Ok, Err}
+use Rattle.std.specs.Prelude.{Option, Some, None, Ok, Err}
 use Rattle.std.specs.Option.{ok_or}
 use mathlib.Core.List.{List, [], ◌∷◌}
 use mathlib.Core.Path.{◌≡◌, refl, sym, ap, ◌∙◌}
@@ -17,7 +17,7 @@ use Rattle.store.specs.Definition.{taken_definition}
 use Rattle.octets.specs.Bytes.{longs}
 use Rattle.dulimasca.specs.Define.{name_reply, name_by, name_of}
 use Rattle.dulimasca.specs.Owes.{NameOwes}
-use Rattle.dulimasca.specs.Told.{Reply, packed_by, roomy, told_length, reply, refuse10, if_room, sort_for}
+use Rattle.dulimasca.specs.Told.{Reply, packed_by, roomy, told_length, reply, if_room, sort_for}
 use Rattle.dulimasca.proofs.Replying.{tells, long_enough, room_there, room_short}
 use Rattle.dulimasca.proofs.Taken.{given, missing, taken, not_taken}
 

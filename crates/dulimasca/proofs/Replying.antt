@@ -1,6 +1,6 @@
 -- What C is told: eight numbers, a refusal that writes nothing, and room for what is lent.
-use Prim.Native.Nat.{ℕ, ◌*◌, ◌<◌, ◌≤◌}
-use Rattle.std.specs.Prelude.{Result, Ok, Err}
+use Prim.Native.Nat.{ℕ, ◌<◌, ◌≤◌}
+use Rattle.std.specs.Prelude.{Ok, Err}
 use mathlib.Core.Bool.{Bool, true, false, cond}
 use mathlib.Core.List.{List}
 use mathlib.Core.Path.{◌≡◌, refl, ap, ◌∙◌}
@@ -13,7 +13,7 @@ use borrow.Author.Tests.{leb-true, leb-false, le-leb, lt-leb}
 use Rattle.octets.specs.Bytes.{longs}
 use Rattle.reader.specs.Place.{padded}
 use Rattle.section.specs.declared.Refusal.{Refusal}
-use Rattle.section.specs.declared.Refusal.TheVariants.{Unsound, TooShort}
+use Rattle.section.specs.declared.Refusal.TheVariants.{TooShort}
 use Rattle.section.specs.Refusals.{Check, pass}
 use Rattle.dulimasca.specs.Told.{Reply, reply, packed, packed_by, told_length, telling, if_room, roomy}
 

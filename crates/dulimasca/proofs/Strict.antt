@@ -32,7 +32,7 @@ use Rattle.dulimasca.specs.Calls.{RowsReply, count_reply, count_by, count_of, fi
 use Rattle.dulimasca.specs.Calls.{rows_reply, checked_reply, rows_by, rows_of}
 use Rattle.dulimasca.specs.Define.{settings_of, defined_reply, judged_reply, defined_by, define_of, start_of, name_reply, name_by, name_of}
 use Rattle.dulimasca.specs.Owes.{SettingsOwes, DefineOwes, StartOwes, CountOwes, FillOwes, RowsOwes, NameOwes}
-use Rattle.dulimasca.specs.Told.{Reply, reply, told_length, if_room, status_by, sort_for, answered}
+use Rattle.dulimasca.specs.Told.{Reply, reply, told_length, if_room, status_by, sort_for}
 
 -- ## A reply that is a status, or writes nothing
 

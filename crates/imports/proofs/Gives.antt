@@ -1,6 +1,6 @@
 -- One call of `rows`: the bytes that it wrote are those of the next rows, as many as there was room for, and the state is the walk behind them.
 use Prim.Native.Nat.{ℕ, ◌+◌, ◌*◌, ◌/◌, ◌<◌, ◌≤◌}
-use Rattle.std.specs.Prelude.{Ok, Err}
+use Rattle.std.specs.Prelude.{Err}
 use mathlib.Core.Bool.{Bool, true, false, cond, false≢true}
 use mathlib.Core.List.{List, [], ◌∷◌, ◌++◌}
 use mathlib.Core.Path.{◌≡◌, refl, sym, ap, ◌∙◌, subst}
@@ -9,7 +9,7 @@ use native.Mathlib.Omega.{arith}
 use lib.Dec.{leb}
 use lib.ListN.{length, get_or, take, drop, length-take}
 use lib.Seq.{sets, sets-eq, take_at}
-use borrow.Author.Tests.{lt-ltb, le-ltb, le-leb, leb-true, leb-false}
+use borrow.Author.Tests.{lt-ltb, le-ltb, le-leb, lt-leb, leb-true, leb-false}
 use Rattle.bits.proofs.Laws.{by_test}
 use Rattle.plan.specs.declared.Definition.{Definition}
 use Rattle.section.specs.Refusals.{Check, pass}
@@ -21,7 +21,6 @@ use Rattle.sizes.specs.Sized.{WalkSized}
 use Rattle.store.specs.Definition.{is_definition, definition_at}
 use Rattle.store.specs.State.{is_state, walk_at}
 use Rattle.store.proofs.KeptState.{stored_walk, stored_is_state}
-use Rattle.store.proofs.States.{state_short}
 use Rattle.rows.specs.Rows.{row_length, rows_from, all_rows, joined, checked_rows, laid_out, checked_first, next_rows}
 use Rattle.rows.proofs.Cut.{rows_few, rows_long, rows_taken}
 use Rattle.rows.proofs.Turns.{rows_by_law}
@@ -37,6 +36,10 @@ use Rattle.imports.specs.Imports.{written}
 -- what stands in front of a buffer is taken back
 take_back : (out bs : List ℕ) (k : ℕ) → length bs ≡ k → k ≤ length out → take k (sets out 0 bs) ≡ bs
 take_back out bs k e h = ap (take k) (sets-eq bs out 0 (omega arith)) ∙ take_at bs (drop (0 + length bs) out) k e
+
+state_short : (st : List ℕ) → length st < 600 → is_state st ≡ false
+unfolding is_state
+state_short st h = rw (lt-leb 600 (length st) h)
 
 pub state_long : (st : List ℕ) → is_state st ≡ true → 600 ≤ length st
 state_long st is = by_long (leb 600 (length st)) refl

@@ -63,7 +63,7 @@ no_slow_long : SlowSized no_slow
 no_slow_long = record { rooms = record { slow_predictors = refl; slow_encodings = refl }; slow_signs = refl }
 
 slow_long : (text : List ℕ) (l : SlowLists) → SlowSized (slow_fields text l)
-unfolding slow_fields slow_of
+unfolding slow_of
 slow_long text l = by (no_slow_lists l)
   where
     by : (t : Bool) → SlowSized (cond t no_slow (slow_of (slow_items text l) (slow_rounds (slow_items text l))))

@@ -1,7 +1,7 @@
 -- One row: how many values it has, how its bytes are put behind each other, and how many they are.
 use Prim.Native.Nat.{ℕ, ◌+◌, ◌*◌, ◌≤◌}
 use mathlib.Core.List.{List, [], ◌∷◌, ◌++◌}
-use mathlib.Core.Path.{◌≡◌, refl, sym, ap, ◌∙◌}
+use mathlib.Core.Path.{◌≡◌, refl, ◌∙◌}
 use native.Mathlib.Omega.{arith}
 use lib.ListN.{length, take, replicate, length-replicate}
 use lib.Seq.{sets, length-sets, length-take-le}
@@ -12,8 +12,6 @@ use Rattle.section.specs.declared.Answer.TheVariants.{Passed, Rejected, Event, I
 use Rattle.section.specs.Walk.{Outcome}
 use Rattle.octets.specs.Bytes.{le32, le64, words}
 use Rattle.octets.proofs.Stores.{then_put, length_words}
-use Rattle.rows.specs.declared.Heading.{Heading}
-use Rattle.rows.specs.Lent.{row_beside}
 use Rattle.rows.specs.Rows.{Row, width, row_length, row_for, row_bytes, row_of}
 
 -- ## How many values

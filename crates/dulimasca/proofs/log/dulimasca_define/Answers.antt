@@ -1,5 +1,4 @@
 -- `log::dulimasca_define` meets its contract: what is lent is refused, a log that passes, one that is refused. Assumes nothing.
-use Rattle.std.proofs.Common.{arith}
 use Rattle.definition.proofs.Fitting.{refusal_fits}
 use Rattle.dulimasca.proofs.Defining.{define_unlent, define_room, define_passed, define_refused}
 use Rattle.dulimasca.proofs.log.dulimasca_define.Goals as goal
