@@ -174,21 +174,22 @@ fn try_kind(
     requires { Barren barren s.now from.at }
     ensures { beside result out.new ≡ judged kind (rest from s.now) (trial (shape d) kind (rest from s.now)) }
 {
-    let main = d.main;
-    let slow = d.slow;
     match kind {
         Kind::Event => try_event(s, from, barren, out),
         Kind::Intra => {
-            let reading = raws::intra_into(main.fields(), &main.intra_encodings, s, from, out);
+            let encodings = d.main.intra_encodings;
+            let reading = raws::intra_into(d.main.fields(), &encodings, s, from, out);
             judge(reading, kind, Found::Intra, s, from, barren, out)
         }
         Kind::Inter => {
-            let reading = raws::inter_into(main.fields(), &main.inter_encodings, s, from, out);
+            let encodings = d.main.inter_encodings;
+            let reading = raws::inter_into(d.main.fields(), &encodings, s, from, out);
             judge(reading, kind, Found::Inter, s, from, barren, out)
         }
         Kind::Gps | Kind::Home => rejected(kind, s, from.get_restore_point(), barren, out),
         Kind::Slow => {
-            let reading = raws::slow_into(slow.n, &slow.encodings, s, from, out);
+            let encodings = d.slow.encodings;
+            let reading = raws::slow_into(d.slow.n, &encodings, s, from, out);
             judge(reading, kind, Found::Slow, s, from, barren, out)
         }
     }

@@ -15,7 +15,7 @@ ghost use Rattle.frame.specs.Past.{body_of};
 ghost use Rattle.frame.specs.Values.{nth};
 
 use crate::time::time_after;
-use plan::{Definition, Main, Numbers};
+use plan::{Definition, Numbers};
 use predictor::{Before, Surroundings};
 use raws::Raw;
 
@@ -161,23 +161,22 @@ fn values_of(
     }
 }
 
-// The fields of a main frame, by two of its definition's lists. Nothing is skipped outside inter, nor there with the interval 1/1.
+// The fields of a main frame with n of them, by two of its definition's lists. Nothing is skipped outside inter, nor there with the interval 1/1.
 fn main_fields<'a>(
-    main: &Main,
+    n: usize,
+    motor: usize,
     numbers: Numbers,
     predictors: &'a [u8; 62],
     encodings: &'a [u8; 62],
 ) -> FieldLists<'a>
     ensures { fields_of result ≡
-        fields_by (take (fields main.now) predictors.now) (take (fields main.now) encodings.now)
-        (min main.now.motor (fields main.now)) (record { numbers = numbers; skipped = 0 }) }
+        fields_by (take n predictors.now) (take n encodings.now) (min motor n) (record { numbers = numbers; skipped = 0 }) }
 {
-    let n = main.fields();
     let k = n.min(62);
     FieldLists {
         predictors: &predictors[..k],
         encodings: &encodings[..k],
-        motor: main.motor.min(n),
+        motor: motor.min(n),
         around: Surroundings {
             numbers,
             skipped: 0,
@@ -197,13 +196,10 @@ pub fn intra_in(
 ) -> Head
     ensures { IntraOwes d (frame_of last last_values.now) (raw_of iteration time raws.now) (frame_of result values.new) }
 {
-    let main = d.main;
-    let fields = main_fields(
-        &main,
-        d.numbers,
-        &main.intra_predictors,
-        &main.intra_encodings,
-    );
+    let predictors = d.main.intra_predictors;
+    let encodings = d.main.intra_encodings;
+    let n = d.main.fields();
+    let fields = main_fields(n, d.main.motor, d.numbers, &predictors, &encodings);
     let older = None;
     values_of(fields, last.values(last_values), older, raws, values);
     Head {
@@ -226,13 +222,10 @@ pub fn inter_in(
 ) -> Head
     ensures { (k : ℕ) → InterOwes d (frame_of last last_values.now) (frame_of older older_values.now) (raw_of k time raws.now) (frame_of result values.new) }
 {
-    let main = d.main;
-    let fields = main_fields(
-        &main,
-        d.numbers,
-        &main.inter_predictors,
-        &main.inter_encodings,
-    );
+    let predictors = d.main.inter_predictors;
+    let encodings = d.main.inter_encodings;
+    let n = d.main.fields();
+    let fields = main_fields(n, d.main.motor, d.numbers, &predictors, &encodings);
     values_of(
         fields,
         last.values(last_values),
@@ -251,11 +244,11 @@ pub fn inter_in(
 pub fn slow_in(d: Definition, raws: &[u32; 62], values: &mut [u32; 62])
     ensures { (k t : ℕ) → SlowOwes d (raw_of k t raws.now) values.new }
 {
-    let slow = d.slow;
-    let encodings = slow.encodings;
-    let k = slow.n.min(16);
+    let predictors = d.slow.predictors;
+    let encodings = d.slow.encodings;
+    let k = d.slow.n.min(16);
     let fields = FieldLists {
-        predictors: &slow.predictors[..k],
+        predictors: &predictors[..k],
         encodings: &encodings[..k],
         motor: k,
         around: Surroundings {

@@ -13,7 +13,8 @@ returns c =
     λ k.
     let lasts = c.args.last_values.now in
     let olders = c.args.older_values.now in
+    let by_lists = rw c.fields-n.ensures at c.main_fields-fields.ensures in
     inter_is c.args.d (frame_of c.args.last lasts) (frame_of c.args.older olders) (raw_of k c.args.time c.args.raws.now)
-    c.values_of.ensures c.main_fields-fields.ensures c.values.ensures c.values-2.ensures
-    (c.next_iteration.ensures lasts ∙ ap (λ f. counted f.around.skipped (frame_of c.args.last lasts)) c.main_fields-fields.ensures)
+    c.values_of.ensures by_lists c.values.ensures c.values-2.ensures
+    (c.next_iteration.ensures lasts ∙ ap (λ f. counted f.around.skipped (frame_of c.args.last lasts)) by_lists)
     (c.time_after.ensures lasts olders)

@@ -10,4 +10,4 @@ pub returns : goal.returns
 unfolding intra_fields shape rules
 returns c =
     intra_is c.args.d (frame_of c.args.last c.args.last_values.now) (raw_of c.args.iteration c.args.time c.args.raws.now)
-    c.values_of.ensures c.main_fields-fields.ensures c.values.ensures refl
+    c.values_of.ensures (rw c.fields-n.ensures at c.main_fields-fields.ensures) c.values.ensures refl
