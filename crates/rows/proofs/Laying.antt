@@ -107,16 +107,16 @@ module _ (d : Definition) (s out₀ : List ℕ) (w₀ : Walk) where
             let next = rows_from d s (room - (count + 1)) (called d s w).walk in
             let bytes : joined (l.done ++ (one ∷ [])) ≡ joined l.done ++ one =
             joined_append l.done (one ∷ []) ∙ ap (λ x. joined l.done ++ x) (joined_one one) in
+            let stored = put ∙ ap (sets out (count * size)) row_is in
+            let sum = ap₂ ◌+◌ l.long (length_row_of d (called d s w) ∙ sym long) in
             let on : rows_from d s (room - count) w ≡ in_front one next =
             ap (λ k. rows_from d s k w) (let q : room - count ≡ suc (room - (count + 1)) = omega arith in q)
             ∙ rows_on d s w (room - (count + 1)) (ap is_over (sym (answer_is d s st)) ∙ sym asked ∙ e) in
             record {
               done = l.done ++ (one ∷ []);
               many = length-append l.done (one ∷ []) ∙ ap (λ k. k + 1) l.many;
-              long =
-                  ap length bytes ∙ length-append (joined l.done) one ∙ ap₂ ◌+◌ l.long (length_row_of d (called d s w) ∙ sym long)
-                  ∙ at_more count size;
-              wrote = then_put out₀ 0 (joined l.done) one l.wrote (put ∙ ap (sets out (count * size)) row_is) (omega (arith, l.long)) ∙ ap (sets out₀ 0) (sym bytes);
+              long = ap length bytes ∙ length-append (joined l.done) one ∙ sum ∙ at_more count size;
+              wrote = then_put out₀ 0 (joined l.done) one l.wrote stored (omega (arith, l.long)) ∙ ap (sets out₀ 0) (sym bytes);
               rest =
                   l.rest ∙ ap (before l.done) on
                   ∙ ap (λ rs. record { rows = rs; walk = next.walk }) (sym (append_assoc l.done (one ∷ []) next.rows))
