@@ -121,13 +121,15 @@ struct FieldLists<'a> {
     around: Surroundings,
 }
 
-// Field i of an earlier frame, if there is the frame.
+// Field i of an earlier frame, if there is the frame. Read from a spare one before that is asked: a branch in front of the load takes
+// longer, since it is then made for every field and not once for the loop.
 #[tactic(auto, unfolding(crate::specs::Values::nth))]
-fn nth(i: usize, values: Option<&[u32; 62]>) -> Option<u32>
+fn nth(i: usize, values: Option<&[u32; 62]>, spare: &[u32; 62]) -> Option<u32>
     requires { i < 62 }
     ensures { result ≡ nth i (option_copied values.entry) }
 {
-    values.map(|values| values[i])
+    let value = values.unwrap_or(spare)[i];
+    values.is_some().then_some(value)
 }
 
 // Puts the values into their rooms, in field order. Until a field has its value its room is 0,
@@ -146,8 +148,8 @@ fn values_of(
     let room = fields.motor.min(61);
     for i in 0..fields.predictors.len() {
         let before = Before {
-            last: nth(i, last),
-            older: nth(i, older),
+            last: nth(i, last, raws),
+            older: nth(i, older, raws),
         };
         let signed = predictor::is_signed(fields.encodings[i]);
         values[i] = predictor::apply(
