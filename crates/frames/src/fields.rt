@@ -9,6 +9,7 @@ use std::io;
 use std::io::Write;
 use words::three;
 
+// Its section stands in it as it is written: a buffer is made for it when the words before it are right.
 #[derive(Clone, Copy)]
 struct Asked<'a> {
     label: &'a [u8],
@@ -18,7 +19,7 @@ struct Asked<'a> {
     section: &'a [u8],
 }
 
-fn read<'a>(rest: &'a [u8], space: &'a mut [u8; LONGEST]) -> Option<Asked<'a>> {
+fn read(rest: &[u8]) -> Option<Asked<'_>> {
     let (label, rest) = words::split(rest, b' ');
     let (n, rest) = words::split(rest, b' ');
     let (encodings, rest) = words::split(rest, b' ');
@@ -36,20 +37,22 @@ fn read<'a>(rest: &'a [u8], space: &'a mut [u8; LONGEST]) -> Option<Asked<'a>> {
         last: MainFrame::absent(),
         older: MainFrame::absent(),
     };
-    let k = words::section::bytes(three::behind_three(rest), space)?;
     Some(Asked {
         label,
         n,
         fields,
         context,
-        section: &space[..k],
+        section: three::behind_three(rest),
     })
 }
 
 // Answers whether the line is a case, and prints nothing where it is not.
 pub fn case(out: &mut impl Write, rest: &[u8]) -> io::Result<bool> {
+    let Some(case) = read(rest) else {
+        return Ok(false);
+    };
     let mut space = [0u8; LONGEST];
-    let Some(case) = read(rest, &mut space) else {
+    let Some(k) = words::section::bytes(case.section, &mut space) else {
         return Ok(false);
     };
     let n = case.n;
@@ -60,7 +63,7 @@ pub fn case(out: &mut impl Write, rest: &[u8]) -> io::Result<bool> {
         fields.encodings,
         fields.predictors,
         case.context,
-        case.section,
+        &space[..k],
         start,
     );
     out.write_all(case.label)?;

@@ -7,6 +7,7 @@ use reader::Cursor;
 use std::io;
 use std::io::Write;
 
+// Its section stands in it as it is written: a buffer is made for it when the words before it are right.
 #[derive(Clone, Copy)]
 struct Asked<'a> {
     label: &'a [u8],
@@ -16,7 +17,7 @@ struct Asked<'a> {
     section: &'a [u8],
 }
 
-fn read<'a>(is_inter: bool, rest: &'a [u8], space: &'a mut [u8; LONGEST]) -> Option<Asked<'a>> {
+fn read(is_inter: bool, rest: &[u8]) -> Option<Asked<'_>> {
     let (label, rest) = words::split(rest, b' ');
     let (definition, rest) = define::main(is_inter, rest)?;
     let n = definition.main.fields();
@@ -28,24 +29,26 @@ fn read<'a>(is_inter: bool, rest: &'a [u8], space: &'a mut [u8; LONGEST]) -> Opt
         older = earlier::frame(word, n)?;
         rest = behind;
     }
-    let k = words::section::bytes(rest, space)?;
     Some(Asked {
         label,
         definition,
         last,
         older,
-        section: &space[..k],
+        section: rest,
     })
 }
 
 // Answers whether the line is a case, and prints nothing where it is not.
 pub fn case(out: &mut impl Write, is_inter: bool, rest: &[u8]) -> io::Result<bool> {
+    let Some(case) = read(is_inter, rest) else {
+        return Ok(false);
+    };
     let mut space = [0u8; LONGEST];
-    let Some(case) = read(is_inter, rest, &mut space) else {
+    let Some(k) = words::section::bytes(case.section, &mut space) else {
         return Ok(false);
     };
     let d = case.definition;
-    let s = case.section;
+    let s = &space[..k];
     let start = Cursor { at: 0 };
     let frame = if is_inter {
         raws::inter(d, s, start).map(|(raw, behind)| (

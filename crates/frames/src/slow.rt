@@ -5,6 +5,7 @@ use reader::Cursor;
 use std::io;
 use std::io::Write;
 
+// Its section stands in it as it is written: a buffer is made for it when the words before it are right.
 #[derive(Clone, Copy)]
 struct Asked<'a> {
     label: &'a [u8],
@@ -12,27 +13,29 @@ struct Asked<'a> {
     section: &'a [u8],
 }
 
-fn read<'a>(rest: &'a [u8], space: &'a mut [u8; LONGEST]) -> Option<Asked<'a>> {
+fn read(rest: &[u8]) -> Option<Asked<'_>> {
     let (label, rest) = words::split(rest, b' ');
     let (definition, rest) = define::slow(rest)?;
-    let k = words::section::bytes(rest, space)?;
     Some(Asked {
         label,
         definition,
-        section: &space[..k],
+        section: rest,
     })
 }
 
 // Answers whether the line is a case, and prints nothing where it is not.
 pub fn case(out: &mut impl Write, rest: &[u8]) -> io::Result<bool> {
+    let Some(case) = read(rest) else {
+        return Ok(false);
+    };
     let mut space = [0u8; LONGEST];
-    let Some(case) = read(rest, &mut space) else {
+    let Some(k) = words::section::bytes(case.section, &mut space) else {
         return Ok(false);
     };
     let d = case.definition;
     out.write_all(case.label)?;
     out.write_all(b" = ")?;
-    match raws::slow(d, case.section, Cursor { at: 0 }) {
+    match raws::slow(d, &space[..k], Cursor { at: 0 }) {
         Ok((raw, behind)) => show::fields(out, frame::slow(d, raw), d.slow.n, behind)?,
         Err(why) => show::fault(out, why)?,
     }

@@ -6,6 +6,7 @@ use std::io::Write;
 use words::three::behind_three;
 use words::{escapes, interval, three};
 
+// Its log stands in it as it is written.
 #[derive(Clone, Copy)]
 struct Asked<'a> {
     label: &'a [u8],
@@ -14,27 +15,29 @@ struct Asked<'a> {
     log: &'a [u8],
 }
 
-fn read<'a>(rest: &'a [u8], space: &'a mut [u8; LONGEST]) -> Option<Asked<'a>> {
+fn read(rest: &[u8]) -> Option<Asked<'_>> {
     let (label, rest) = words::split(rest, b' ');
     let numbers = three::numbers(rest)?;
     let rest = behind_three(rest);
     let interval = interval::read(rest)?;
-    let n = escapes::unescape(behind_three(rest), space)?;
     Some(Asked {
         label,
         numbers,
         settings: Settings { interval },
-        log: &space[..n],
+        log: behind_three(rest),
     })
 }
 
 // Answers whether the line is a case, and prints nothing where it is not.
 pub fn case(out: &mut impl Write, rest: &[u8]) -> io::Result<bool> {
-    let mut space = [0u8; LONGEST];
-    let Some(case) = read(rest, &mut space) else {
+    let Some(case) = read(rest) else {
         return Ok(false);
     };
-    let log = case.log;
+    let mut space = [0u8; LONGEST];
+    let Some(n) = escapes::unescape(case.log, &mut space) else {
+        return Ok(false);
+    };
+    let log = &space[..n];
     let header = header::read(log);
     let lists = header.lists;
     let defined = definition::define(log, lists, case.numbers, case.settings);
