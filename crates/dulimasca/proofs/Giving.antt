@@ -14,6 +14,7 @@ use Rattle.section.specs.declared.Refusal.TheVariants.{Unsound, TooShort}
 use Rattle.section.specs.declared.Walk.{Walk}
 use Rattle.section.specs.Refusals.{Check}
 use Rattle.rows.specs.declared.Laid.{Laid}
+use Rattle.rows.specs.declared.Unlaid.{Unlaid}
 use Rattle.rows.specs.Owes.{CheckOwes, NextOwes}
 use Rattle.rows.specs.Rows.{Told, Rows, row_length, rows_from, checked_rows, laid_out, checked_first, next_rows}
 use Rattle.rows.proofs.Checked.{check_is, next_kept}
@@ -27,15 +28,15 @@ use Rattle.dulimasca.proofs.Replying.{tells, packed_short}
 use Rattle.dulimasca.proofs.Taken.{taken, not_taken, walk_taken, walk_not_taken}
 
 -- what the rows' check refuses, and what it lets through without room for the numbers
-refused : (c : Check) (x : Rows) (st out told : List ℕ) {why : Refusal} → c ≡ Err why
-    → kept st (reply (packed_by why 1) out told) ≡ checked_reply (checked_first c x out).given (checked_first c x out).out st out told
+refused : (c : Check) (x : Rows) (w : Walk) (st out told : List ℕ) {why : Refusal} → c ≡ Err why
+    → kept st (reply (packed_by why 1) out told) ≡ checked_reply (checked_first c x w out).given (checked_first c x w out).out st out told
 unfolding checked_reply checked_first
-refused c x st out told is = rw is
+refused c x w st out told is = rw is
 
-untold : (c : Check) (x : Rows) (st out told : List ℕ) {u : Unit {0}} → c ≡ Ok u → length told < told_length
-    → kept st (reply (packed_by (TooShort told_length) 1) out told) ≡ checked_reply (checked_first c x out).given (checked_first c x out).out st out told
+untold : (c : Check) (x : Rows) (w : Walk) (st out told : List ℕ) {u : Unit {0}} → c ≡ Ok u → length told < told_length
+    → kept st (reply (packed_by (TooShort told_length) 1) out told) ≡ checked_reply (checked_first c x w out).given (checked_first c x w out).out st out told
 unfolding checked_reply checked_first laid_out
-untold c x st out told is h = rw (is, lt-leb told_length (length told) h, packed_short told_length)
+untold c x w st out told is h = rw (is, lt-leb told_length (length told) h, packed_short told_length)
 
 module _ (def st s out told : List ℕ) where
   pub rows_no_definition : {why : Refusal} → Err why ≡ ok_or (taken_definition def) Unsound → RowsOwes def st s out told (packed_by why 1) st out told
@@ -58,22 +59,22 @@ module _ (def st s out told : List ℕ) where
       pub rows_unchecked : (why : Refusal) → CheckOwes d w (length s) (length out) (Err why) → RowsOwes def st s out told (packed_by why 1) st out told
       unfolding next_rows
       rows_unchecked why verdict =
-          refused (checked_rows d w (length s) (length out)) (rows_from d s (length out / row_length d) w) st out told (sym (check_is d w _ _ verdict))
+          refused (checked_rows d w (length s) (length out)) (rows_from d s (length out / row_length d) w) w st out told (sym (check_is d w _ _ verdict))
           ∙ by_next
 
       pub rows_untold : (u : Unit {0}) → CheckOwes d w (length s) (length out) (Ok u) → length told < told_length
           → RowsOwes def st s out told (packed_by (TooShort told_length) 1) st out told
       unfolding next_rows
       rows_untold u verdict h =
-          untold (checked_rows d w (length s) (length out)) (rows_from d s (length out / row_length d) w) st out told (sym (check_is d w _ _ verdict)) h
+          untold (checked_rows d w (length s) (length out)) (rows_from d s (length out / row_length d) w) w st out told (sym (check_is d w _ _ verdict)) h
           ∙ by_next
 
-      pub rows_refused : (why : Refusal) {out' : List ℕ} → NextOwes d w s out (Err why) out' → RowsOwes def st s out told (packed_by why 1) st out' told
+      pub rows_refused : (r : Unlaid) {out' : List ℕ} → NextOwes d w s out (Err r) out' → RowsOwes def st s out told (packed_by r.why 1) st out' told
       unfolding next_rows
-      rows_refused why owes =
+      rows_refused r owes =
           let p = next_kept d s w out owes in
-          ap (λ o. kept st (reply (packed_by why 1) o told)) p.1
-          ∙ refused (checked_rows d w (length s) (length out)) (rows_from d s (length out / row_length d) w) st out told p.0
+          ap (λ o. kept st (reply (packed_by r.why 1) o told)) p.2
+          ∙ refused (checked_rows d w (length s) (length out)) (rows_from d s (length out / row_length d) w) w st out told p.0
           ∙ by_next
 
       pub rows_given : told_length ≤ length told → (x : Laid) {out' : List ℕ} → NextOwes d w s out (Ok x) out' → {a : ℕ} {st' xs told' : List ℕ}

@@ -21,11 +21,11 @@ use Rattle.section.specs.declared.Answer.TheVariants.{Passed, Rejected, Event, I
 use Rattle.section.specs.Refusals.{Check}
 use Rattle.section.specs.declared.Ending.{Ending}
 use Rattle.section.specs.declared.Ending.TheVariants.{Going, Done, Out, Cut}
-use Rattle.section.specs.declared.Refusal.{Refusal}
 use Rattle.section.specs.declared.Refusal.TheVariants.{Unsound, TooShort}
 use Rattle.section.specs.Answers.{paper_of}
 use Rattle.section.specs.Walk.{Outcome}
 use Rattle.rows.specs.declared.Laid.{Laid}
+use Rattle.rows.specs.declared.Unlaid.{Unlaid}
 use Rattle.store.specs.Definition.{definition_length, is_definition, definition_at}
 use Rattle.store.specs.State.{state_length, is_state}
 use Rattle.dulimasca.specs.Calls.{RowsReply, count_reply, count_by, count_of, filled, checked_fill, fill_by, fill_of}
@@ -149,13 +149,13 @@ fill_strict def s kind k out told owes =
 abbrev StrictRows : (st out told : List ℕ) → RowsReply → Type 0
 StrictRows st out told r = 256 ≤ r.answer → (r.state ≡ st) × (r.out ≡ out) × (r.told ≡ told)
 
-rows_checked : (x : Result Laid Refusal) (lent st out told : List ℕ) → StrictRows st out told (checked_reply x lent st out told)
+rows_checked : (x : Result Laid Unlaid) (lent st out told : List ℕ) → StrictRows st out told (checked_reply x lent st out told)
 unfolding checked_reply rows_reply
 rows_checked (Ok x) lent st out told =
     by_test (StrictRows st out told) (leb told_length (length told))
     (λ _ h. let small = status_small x.walk.tally.ending in absurd (omega arith))
     (λ _ h. (refl, refl, refl))
-rows_checked (Err why) lent st out told = λ h. (refl, refl, refl)
+rows_checked (Err r) lent st out told = λ h. (refl, refl, refl)
 
 pub rows_strict : (def st s out told : List ℕ) {r : ℕ} {st' out' told' : List ℕ} → RowsOwes def st s out told r st' out' told' → 256 ≤ r →
     (st' ≡ st) × (out' ≡ out) × (told' ≡ told)

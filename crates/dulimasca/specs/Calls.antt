@@ -7,7 +7,6 @@ use Rattle.plan.specs.declared.Sort.{Sort}
 use Rattle.plan.specs.Sound.{sound}
 use Rattle.reader.specs.Place.{padded}
 use Rattle.section.specs.declared.Answer.{Answer}
-use Rattle.section.specs.declared.Refusal.{Refusal}
 use Rattle.section.specs.declared.Tally.{Tally}
 use Rattle.section.specs.declared.Walk.{Walk}
 use Rattle.section.specs.Answers.{paper_of}
@@ -19,6 +18,7 @@ use Rattle.octets.specs.Bytes.{words}
 use Rattle.store.specs.Definition.{is_definition, definition_at}
 use Rattle.store.specs.State.{is_state, walk_at, with_state}
 use Rattle.rows.specs.declared.Laid.{Laid}
+use Rattle.rows.specs.declared.Unlaid.{Unlaid}
 use Rattle.rows.specs.Rows.{next_rows}
 use Rattle.dulimasca.specs.Told.{Reply, reply, told_length, telling, refuse, refuse10, if_room, packed_by, status_by, tally_numbers, sort_for}
 
@@ -80,9 +80,9 @@ rows_reply x lent st told =
     }
 
 -- without room for the numbers: 10, and 11 of the rows' own buffer, come first
-unfoldable pub checked_reply : Result Laid Refusal → (lent st out told : List ℕ) → RowsReply
+unfoldable pub checked_reply : Result Laid Unlaid → (lent st out told : List ℕ) → RowsReply
 checked_reply (Ok x) lent st out told = cond (leb told_length (length told)) (rows_reply x lent st told) (kept st (refuse 11 told_length out told))
-checked_reply (Err why) lent st out told = kept st (reply (packed_by why 1) out told)
+checked_reply (Err r) lent st out told = kept st (reply (packed_by r.why 1) out told)
 
 unfoldable pub rows_by : Definition → Walk → (st s out told : List ℕ) → RowsReply
 rows_by d w st s out told = let x = next_rows d s w out in checked_reply x.given x.out st out told

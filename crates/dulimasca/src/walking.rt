@@ -115,11 +115,16 @@ fn lay_rows(
         rows::check(d, w, s.len(), out.len())?;
         return Err(Refusal::TooShort(TOLD));
     }
-    let laid = rows::next(d, w, s, out)?;
-    let tally = laid.walk.tally;
-    store::state::put(state, laid.walk);
-    tell(tally_numbers(tally, laid.count), told);
-    Ok(status_by(tally.ending))
+    // Of a refusal the number alone is told: the walk that it hands back stands in the state.
+    match rows::next(d, w, s, out) {
+        Ok(laid) => {
+            let tally = laid.walk.tally;
+            store::state::put(state, laid.walk);
+            tell(tally_numbers(tally, laid.count), told);
+            Ok(status_by(tally.ending))
+        }
+        Err(unlaid) => Err(unlaid.why),
+    }
 }
 
 // The next rows of a walk: as many whole ones as `out` has room for, and the walk behind them in `state`. 0: there may be more; 1 to 3: how the walk ended;

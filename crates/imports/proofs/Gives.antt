@@ -80,7 +80,7 @@ module _ (d : Definition) (s : List ℕ) (bytes : (i : ℕ) → get_or s i 0 < 2
 
     -- the reply by the verdict
     abbrev by : Check → RowsReply
-    by c = let x = checked_first c (rows_from d s k w) out in checked_reply x.given x.out st out told
+    by c = let x = checked_first c (rows_from d s k w) w out in checked_reply x.given x.out st out told
 
     given : RowsReply
     given = let x = rows_from d s k w in rows_reply (record { count = length x.rows; walk = x.walk }) (sets out 0 (joined x.rows)) st told

@@ -2,7 +2,7 @@
 use Prim.Native.Nat.{ℕ, ◌/◌}
 use Rattle.std.specs.Prelude.{Result, Ok, Err}
 use mathlib.Core.List.{List}
-use mathlib.Core.Path.{◌≡◌, ap, ◌∙◌}
+use mathlib.Core.Path.{◌≡◌, sym, ap, ◌∙◌}
 use native.Mathlib.Omega.{arith}
 use lib.ListN.{length}
 use Rattle.plan.specs.declared.Definition.{Definition}
@@ -11,6 +11,7 @@ use Rattle.section.specs.declared.Walk.{Walk}
 use Rattle.section.specs.Refusals.{Check}
 use Rattle.section.proofs.Checks.{refusal_verdict}
 use Rattle.rows.specs.declared.Laid.{Laid}
+use Rattle.rows.specs.declared.Unlaid.{Unlaid}
 use Rattle.rows.specs.Owes.{CheckOwes, NextOwes}
 use Rattle.rows.specs.Rows.{Rows, Told, row_length, rows_from, checked_rows, told, laid_out, checked_first, next_rows}
 
@@ -20,11 +21,11 @@ unfolding checked_rows
 check_is d w z room owes = refusal_verdict d w z room (row_length d) owes
 
 module _ (d : Definition) (s : List ℕ) (w : Walk) (out : List ℕ) where
-  next_by : (c : Check) → CheckOwes d w (length s) (length out) c → checked_first c (rows_from d s (length out / row_length d) w) out ≡ next_rows d s w out
+  next_by : (c : Check) → CheckOwes d w (length s) (length out) c → checked_first c (rows_from d s (length out / row_length d) w) w out ≡ next_rows d s w out
   unfolding next_rows
-  next_by c verdict = ap (λ c. checked_first c (rows_from d s (length out / row_length d) w) out) (check_is d w (length s) (length out) verdict)
+  next_by c verdict = ap (λ c. checked_first c (rows_from d s (length out / row_length d) w) w out) (check_is d w (length s) (length out) verdict)
 
-  pub next_refused : {why : Refusal} → CheckOwes d w (length s) (length out) (Err why) → NextOwes d w s out (Err why) out
+  pub next_refused : {why : Refusal} → CheckOwes d w (length s) (length out) (Err why) → NextOwes d w s out (Err (record { why = why; walk = w })) out
   unfolding checked_first
   next_refused verdict = next_by _ verdict
 
@@ -36,13 +37,17 @@ module _ (d : Definition) (s : List ℕ) (w : Walk) (out : List ℕ) where
 -- ## What an answer of `next` tells
 
 module _ (d : Definition) (s : List ℕ) (w : Walk) (out : List ℕ) where
-  -- a refusal is that of the check, and it keeps the buffer's content
-  told_refused : (c : Check) (x : Rows) {why : Refusal} {after : List ℕ} → told (Err why) after ≡ checked_first c x out → (c ≡ Err why) × (after ≡ out)
+  -- a refusal is that of the check, and it hands the walk back and keeps the buffer's content
+  told_refused : (c : Check) (x : Rows) {r : Unlaid} {after : List ℕ} → told (Err r) after ≡ checked_first c x w out
+      → (c ≡ Err r.why) × (r.walk ≡ w) × (after ≡ out)
   unfolding checked_first laid_out
   told_refused (Ok u) x e = let z : ◌≡◌ {A = ℕ} 0 1 = cc (ap (λ (t : Told). t.given) e) in absurd (omega arith)
-  told_refused (Err y) x {why} e = let g : ◌≡◌ {A = Result Laid Refusal} (Err why) (Err y) = ap (λ (t : Told). t.given) e in (cc, ap (λ (t : Told). t.out) e)
+  told_refused (Err y) x {r} e =
+      let g : ◌≡◌ {A = Result Laid Unlaid} (Err r) (Err (record { why = y; walk = w })) = ap (λ (t : Told). t.given) e in
+      let h : r ≡ record { why = y; walk = w } = cc in
+      (ap Err (sym (ap (λ (t : Unlaid). t.why) h)), ap (λ (t : Unlaid). t.walk) h, ap (λ (t : Told). t.out) e)
 
-  pub next_kept : {why : Refusal} {after : List ℕ} → NextOwes d w s out (Err why) after
-      → (checked_rows d w (length s) (length out) ≡ Err why) × (after ≡ out)
+  pub next_kept : {r : Unlaid} {after : List ℕ} → NextOwes d w s out (Err r) after
+      → (checked_rows d w (length s) (length out) ≡ Err r.why) × (r.walk ≡ w) × (after ≡ out)
   unfolding next_rows
   next_kept owes = told_refused (checked_rows d w (length s) (length out)) _ owes

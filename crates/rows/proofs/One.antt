@@ -5,11 +5,11 @@ use mathlib.Core.List.{List}
 use mathlib.Core.Path.{◌≡◌, ap}
 use Rattle.plan.specs.declared.Definition.{Definition}
 use Rattle.reader.proofs.One.{one_answer}
-use Rattle.section.specs.declared.Refusal.{Refusal}
 use Rattle.section.specs.declared.Walk.{Walk}
 use Rattle.section.specs.Refusals.{Check}
 use Rattle.section.proofs.Paper.{found_injective}
 use Rattle.rows.specs.declared.Laid.{Laid}
+use Rattle.rows.specs.declared.Unlaid.{Unlaid}
 use Rattle.rows.specs.Owes.{RowLengthOwes, CheckOwes, NextOwes}
 use Rattle.rows.specs.Rows.{Told, told}
 
@@ -19,6 +19,6 @@ row_length_one d = one_answer
 pub check_one : (d : Definition) (w : Walk) (z room : ℕ) {r t : Check} → CheckOwes d w z room r → CheckOwes d w z room t → r ≡ t
 check_one d w z room {r} {t} p q = found_injective r t (one_answer p q)
 
-pub next_one : (d : Definition) (w : Walk) (s out : List ℕ) (r t : Result Laid Refusal) (a b : List ℕ) → NextOwes d w s out r a → NextOwes d w s out t b
+pub next_one : (d : Definition) (w : Walk) (s out : List ℕ) (r t : Result Laid Unlaid) (a b : List ℕ) → NextOwes d w s out r a → NextOwes d w s out t b
     → (r ≡ t) × (a ≡ b)
 next_one d w s out r t a b p q = let e : told r a ≡ told t b = one_answer p q in (ap (λ (x : Told). x.given) e, ap (λ (x : Told). x.out) e)

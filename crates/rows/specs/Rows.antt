@@ -6,7 +6,6 @@ use Rattle.plan.specs.declared.Definition.{Definition}
 use Rattle.reader.specs.Place.{padded}
 use Rattle.section.specs.declared.Answer.{Answer}
 use Rattle.section.specs.declared.Answer.TheVariants.{Passed, Rejected, Event, Intra, Inter, Slow, Over, Refused}
-use Rattle.section.specs.declared.Refusal.{Refusal}
 use Rattle.section.specs.declared.Refusal.TheVariants.{Unsound, TooShort}
 use Rattle.section.specs.declared.Walk.{Walk}
 use Rattle.section.specs.Answers.{is_over}
@@ -15,6 +14,7 @@ use Rattle.section.specs.Walk.{Outcome}
 use Rattle.calls.specs.Call.{called}
 use Rattle.octets.specs.Bytes.{le32, le64, words}
 use Rattle.rows.specs.declared.Laid.{Laid}
+use Rattle.rows.specs.declared.Unlaid.{Unlaid}
 
 -- ## A row
 
@@ -86,23 +86,23 @@ joined (r ∷ rs) = r ++ joined rs
 unfoldable pub checked_rows : Definition → Walk → (length room : ℕ) → Check
 checked_rows d w z room = cond (admitted d z w) (cond (leb (row_length d) room) pass (Err (TooShort (row_length d)))) (Err Unsound)
 
--- all that is given: how many rows and the walk behind them, or the refusal; and the buffer's content
+-- all that is given: how many rows and the walk behind them, or the refusal and the walk before it; and the buffer's content
 pub record Told : Type 0 where
-  pub given : Result Laid Refusal
+  pub given : Result Laid Unlaid
   pub out : List ℕ
 
-abbrev pub told : Result Laid Refusal → (out : List ℕ) → Told
+abbrev pub told : Result Laid Unlaid → (out : List ℕ) → Told
 told r out = record { given = r; out = out }
 
 -- the rows stand in front of the buffer; the rest keeps its content
 unfoldable pub laid_out : Rows → (out : List ℕ) → Told
 laid_out x out = told (Ok (record { count = length x.rows; walk = x.walk })) (sets out 0 (joined x.rows))
 
--- a refusal writes nothing
-unfoldable pub checked_first : Check → Rows → (out : List ℕ) → Told
-checked_first (Ok u) x out = laid_out x out
-checked_first (Err why) x out = told (Err why) out
+-- a refusal hands the walk back and writes nothing
+unfoldable pub checked_first : Check → Rows → Walk → (out : List ℕ) → Told
+checked_first (Ok u) x w out = laid_out x out
+checked_first (Err why) x w out = told (Err (record { why = why; walk = w })) out
 
 -- as many rows as there is room for
 unfoldable pub next_rows : Definition → List ℕ → Walk → (out : List ℕ) → Told
-next_rows d s w out = checked_first (checked_rows d w (length s) (length out)) (rows_from d s (length out / row_length d) w) out
+next_rows d s w out = checked_first (checked_rows d w (length s) (length out)) (rows_from d s (length out / row_length d) w) w out

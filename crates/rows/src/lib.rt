@@ -30,6 +30,13 @@ pub struct Laid {
     pub walk: Walk,
 }
 
+// Why no row was laid out, and the walk that was given.
+#[derive(Clone, Copy)]
+pub struct Unlaid {
+    pub why: Refusal,
+    pub walk: Walk,
+}
+
 // How many values a row has: a place for every field, and for the three numbers of an event.
 #[tactic(auto, unfolding(crate::specs::Rows::width))]
 fn width(d: Definition) -> usize
@@ -136,9 +143,12 @@ pub fn check(d: Definition, w: Walk, length: usize, room: usize) -> Result<(), R
 }
 
 // The next rows of a walk, as many whole ones as the lent buffer has room for; or refusal 10, or 11 with the length of a row.
-pub fn next(d: Definition, w: Walk, s: &[u8], out: &mut [u8]) -> Result<Laid, Refusal>
+// A refusal hands the walk back.
+pub fn next(d: Definition, w: Walk, s: &[u8], out: &mut [u8]) -> Result<Laid, Unlaid>
     ensures { NextOwes d w s.now out.old result out.new }
 {
-    check(d, w, s.len(), out.len())?;
-    Ok(lay(d, w, s, out))
+    match check(d, w, s.len(), out.len()) {
+        Ok(()) => Ok(lay(d, w, s, out)),
+        Err(why) => Err(Unlaid { why, walk: w }),
+    }
 }

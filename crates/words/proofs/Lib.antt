@@ -1,3 +1,4 @@
 pub mod Lines
 pub mod One
+pub mod Pairs
 pub mod Texts

@@ -22,10 +22,14 @@ impl Writing for Pairs {
     }
 }
 
-// How many bytes the section has.
+// How many bytes the section has. A text that there is no room for is not read.
+#[tactic(auto, using(crate::proofs::Pairs::no_room))]
 pub fn bytes(text: &[u8], out: &mut [u8]) -> Option<usize>
     ensures value { BytesOwes text.now out.old result out.new }
     ensures counts { IfSome result (λ n. Counts n out.new) }
 {
+    if out.len() < text.len() / 2 {
+        return None;
+    }
     word::<Pairs>(text, out)
 }

@@ -16,11 +16,10 @@ returns-in_err-check c =
 pub returns-then-told-lt-TOLD : goal.returns-then-told-lt-TOLD
 returns-then-told-lt-TOLD c = rows_untold _ _ _ _ _ c.in_ok-d.ensures c.in_ok-w.ensures _ c.in_ok-check.ensures c.if-told-lt-TOLD.true
 
-pub returns-in_err-laid : goal.returns-in_err-laid
-returns-in_err-laid c =
-    rw (handed_on c.from_residual-in_err-laid.ensures.1) (rows_refused _ _ _ _ _ c.in_ok-d.ensures c.in_ok-w.ensures _ c.in_err-laid.ensures)
-
-pub returns : goal.returns
-returns c =
-    rows_given _ _ _ _ _ c.in_ok-d.ensures c.in_ok-w.ensures c.if-told-lt-TOLD.false _ c.in_ok-laid.ensures c.put.ensures c.tally_numbers.ensures
+pub returns-in-Ok : goal.returns-in-Ok
+returns-in-Ok c =
+    rows_given _ _ _ _ _ c.in_ok-d.ensures c.in_ok-w.ensures c.if-told-lt-TOLD.false _ c.in-Ok.ensures c.put.ensures c.tally_numbers.ensures
     c.tell.ensures c.status_by.ensures
+
+pub returns-in-Err : goal.returns-in-Err
+returns-in-Err c = rows_refused _ _ _ _ _ c.in_ok-d.ensures c.in_ok-w.ensures _ c.in-Err.ensures
