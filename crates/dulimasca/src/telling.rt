@@ -54,6 +54,7 @@ pub(crate) fn room(lent: &[u8], least: usize) -> Result<(), Refusal>
 }
 
 // The definition that bytes are; or refusal 10.
+#[inline(always)]
 pub(crate) fn definition(def: &[u8]) -> Result<Definition, Refusal>
     ensures { result ≡ ok_or (taken_definition def.now) Unsound }
 {
