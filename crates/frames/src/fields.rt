@@ -9,7 +9,7 @@ use std::io;
 use std::io::Write;
 use words::three;
 
-// Its section stands in it as it is written: a buffer is made for it when the words before it are right.
+// Its section stands in it as it is written.
 #[derive(Clone, Copy)]
 struct Asked<'a> {
     label: &'a [u8],
@@ -46,11 +46,8 @@ fn read(rest: &[u8]) -> Option<Asked<'_>> {
     })
 }
 
-// Answers whether the line is a case, and prints nothing where it is not.
-pub fn case(out: &mut impl Write, rest: &[u8]) -> io::Result<bool> {
-    let Some(case) = read(rest) else {
-        return Ok(false);
-    };
+// What is read, or nothing where the section is not written rightly. Its buffer stands here, since a function pays for it at entry.
+fn answer(out: &mut impl Write, case: Asked) -> io::Result<bool> {
     let mut space = [0u8; LONGEST];
     let Some(k) = words::section::bytes(case.section, &mut space) else {
         return Ok(false);
@@ -79,4 +76,12 @@ pub fn case(out: &mut impl Write, rest: &[u8]) -> io::Result<bool> {
         }
     }
     Ok(true)
+}
+
+// Answers whether the line is a case, and prints nothing where it is not.
+pub fn case(out: &mut impl Write, rest: &[u8]) -> io::Result<bool> {
+    match read(rest) {
+        Some(case) => answer(out, case),
+        None => Ok(false),
+    }
 }

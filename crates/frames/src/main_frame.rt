@@ -7,7 +7,7 @@ use reader::Cursor;
 use std::io;
 use std::io::Write;
 
-// Its section stands in it as it is written: a buffer is made for it when the words before it are right.
+// Its section stands in it as it is written.
 #[derive(Clone, Copy)]
 struct Asked<'a> {
     label: &'a [u8],
@@ -38,11 +38,8 @@ fn read(is_inter: bool, rest: &[u8]) -> Option<Asked<'_>> {
     })
 }
 
-// Answers whether the line is a case, and prints nothing where it is not.
-pub fn case(out: &mut impl Write, is_inter: bool, rest: &[u8]) -> io::Result<bool> {
-    let Some(case) = read(is_inter, rest) else {
-        return Ok(false);
-    };
+// What is read, or nothing where the section is not written rightly. Its buffer stands here, since a function pays for it at entry.
+fn answer(out: &mut impl Write, is_inter: bool, case: Asked) -> io::Result<bool> {
     let mut space = [0u8; LONGEST];
     let Some(k) = words::section::bytes(case.section, &mut space) else {
         return Ok(false);
@@ -65,4 +62,12 @@ pub fn case(out: &mut impl Write, is_inter: bool, rest: &[u8]) -> io::Result<boo
         Err(why) => show::fault(out, why)?,
     }
     Ok(true)
+}
+
+// Answers whether the line is a case, and prints nothing where it is not.
+pub fn case(out: &mut impl Write, is_inter: bool, rest: &[u8]) -> io::Result<bool> {
+    match read(is_inter, rest) {
+        Some(case) => answer(out, is_inter, case),
+        None => Ok(false),
+    }
 }

@@ -28,11 +28,8 @@ fn read(rest: &[u8]) -> Option<Asked<'_>> {
     })
 }
 
-// Answers whether the line is a case, and prints nothing where it is not.
-pub fn case(out: &mut impl Write, rest: &[u8]) -> io::Result<bool> {
-    let Some(case) = read(rest) else {
-        return Ok(false);
-    };
+// What the log comes to, or nothing where it is not written rightly. Its buffer stands here, since a function pays for it at entry.
+fn answer(out: &mut impl Write, case: Asked) -> io::Result<bool> {
     let mut space = [0u8; LONGEST];
     let Some(n) = escapes::unescape(case.log, &mut space) else {
         return Ok(false);
@@ -48,4 +45,12 @@ pub fn case(out: &mut impl Write, rest: &[u8]) -> io::Result<bool> {
         Err(why) => show::refusal(out, why)?,
     }
     Ok(true)
+}
+
+// Answers whether the line is a case, and prints nothing where it is not.
+pub fn case(out: &mut impl Write, rest: &[u8]) -> io::Result<bool> {
+    match read(rest) {
+        Some(case) => answer(out, case),
+        None => Ok(false),
+    }
 }

@@ -5,7 +5,7 @@ use std::io;
 use std::io::Write;
 use words::escapes;
 
-// Texts stand in it as they are written: a buffer is made for one when the words before it are right.
+// Texts stand in it as they are written.
 #[derive(Clone, Copy)]
 struct Asked<'a> {
     label: &'a [u8],
@@ -40,11 +40,8 @@ fn read(rest: &[u8]) -> Option<Asked<'_>> {
     })
 }
 
-// Answers whether the line is a case, and prints nothing where it is not.
-pub fn case(out: &mut impl Write, rest: &[u8]) -> io::Result<bool> {
-    let Some(case) = read(rest) else {
-        return Ok(false);
-    };
+// The name, or nothing where a text is not written rightly. The buffers stand here, since a function pays for its own at entry.
+fn answer(out: &mut impl Write, case: Asked) -> io::Result<bool> {
     let mut main_space = [0u8; LONGEST];
     let Some(main) = escapes::word(case.main, &mut main_space) else {
         return Ok(false);
@@ -66,4 +63,12 @@ pub fn case(out: &mut impl Write, rest: &[u8]) -> io::Result<bool> {
         write!(out, " {} {}", at.start, at.end)?;
     }
     Ok(true)
+}
+
+// Answers whether the line is a case, and prints nothing where it is not.
+pub fn case(out: &mut impl Write, rest: &[u8]) -> io::Result<bool> {
+    match read(rest) {
+        Some(case) => answer(out, case),
+        None => Ok(false),
+    }
 }

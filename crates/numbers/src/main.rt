@@ -38,6 +38,13 @@ fn read_by(reader: &[u8], group: usize, place: usize, s: &[u8]) -> Option<Answer
     }
 }
 
+// The same of a section as it is written. Its buffer stands here, since a function pays for it at entry.
+fn read_section(reader: &[u8], group: usize, place: usize, digits: &[u8]) -> Option<Answer> {
+    let mut space = [0u8; 256];
+    let n = words::section::bytes(digits, &mut space)?;
+    read_by(reader, group, place, &space[..n])
+}
+
 // The answer of a line, or none where it is no case.
 fn answer_of(line: &[u8]) -> Option<Answer> {
     let (reader, rest) = words::split(line, b' ');
@@ -45,9 +52,7 @@ fn answer_of(line: &[u8]) -> Option<Answer> {
     let (place, digits) = words::split(rest, b' ');
     let group = digits::decimal(group)?;
     let place = digits::decimal(place)?;
-    let mut space = [0u8; 256];
-    let n = words::section::bytes(digits, &mut space)?;
-    read_by(reader, group, place, &space[..n])
+    read_section(reader, group, place, digits)
 }
 
 // Answers whether the line is a case, and prints nothing where it is not.
