@@ -28,7 +28,8 @@ fn read(rest: &[u8]) -> Option<Asked<'_>> {
     })
 }
 
-// What the log comes to, or nothing where it is not written rightly. Its buffer stands here, since a function pays for it at entry.
+// What the log comes to, or nothing where it is not written rightly. Its buffer stands here and never in a caller, since a function pays for it at entry.
+#[inline(never)]
 fn answer(out: &mut impl Write, case: Asked) -> io::Result<bool> {
     let mut space = [0u8; LONGEST];
     let Some(n) = escapes::unescape(case.log, &mut space) else {

@@ -40,7 +40,8 @@ fn read(rest: &[u8]) -> Option<Asked<'_>> {
     })
 }
 
-// The name, or nothing where a text is not written rightly. The buffers stand here, since a function pays for its own at entry.
+// The name, or nothing where a text is not written rightly. The buffers stand here and never in a caller, since a function pays for its own at entry.
+#[inline(never)]
 fn answer(out: &mut impl Write, case: Asked) -> io::Result<bool> {
     let mut main_space = [0u8; LONGEST];
     let Some(main) = escapes::word(case.main, &mut main_space) else {
